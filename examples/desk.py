@@ -14,7 +14,8 @@ output is a terminal, answers are put in words. There are these words too:
   watch [SECONDS]                        prints what changes in `radios` and `items`, until it is interrupted
   history, help, quit
 
-Status: 0; 1 if a line was bad, refused or not carried out; 2 for wrong words; 3 if the switch does not answer.
+Status: 0; 1 if a line was bad, refused or not carried out; 2 for wrong words; 3 if the switch does not answer, or answers as another
+station.
 
 A base station does this, from another file beside this one:
 
@@ -51,6 +52,10 @@ HISTORY = '~/.tetra_switch_desk'
 
 class Gone(Exception):
     """The switch can't be reached, or does not answer."""
+
+
+class OtherStation(Gone):
+    """The link is that of another station: no command was sent over it."""
 
 
 class WrongWords(Exception):
@@ -133,8 +138,6 @@ class Line:
     def __init__(self, text, sequence=None):
         self.text, self.sequence = text, sequence
         self.told, self.missing, self.again, self.outcome = [], 1, False, None
-        # Of the client itself: whether the station's last accepted command is this one or a later one
-        self.checks = None
 
     def data(self):
         return self.text.encode(errors='surrogateescape') + b'\n'
@@ -143,7 +146,7 @@ class Line:
         """Takes a line of the answer; whether it is one."""
         if not self.told and not line.startswith('line '):
             begins = self.text if self.sequence is None else self.text.split(' ')[0]
-            if not line.startswith(begins + ' '):
+            if not (line + ' ').startswith(begins + ' '):
                 return False
             if begins.split(' ')[0] in LISTS:
                 self.missing += int(line.split(' ')[-1])
@@ -179,6 +182,10 @@ class Line:
     def is_accepted(self):
         return self.sequence is not None and self.outcome in ('ok', 'kept')
 
+    def is_forbidden(self):
+        """Whether it is an order, of a station that may give none."""
+        return self.outcome == 'no' and self.told[0].split(' ')[2] == 'forbidden'
+
     def is_lost(self):
         """Whether the number of a command that was not sent before is an old one: a new command under it is not carried out."""
         words = self.told[0].split(' ')
@@ -196,7 +203,7 @@ class Client:
         self.warn, self.clock = calls.get('warn', lambda text: None), calls.get('clock', time.time)
         self.answered = calls.get('answered', lambda line: None)
         self.flight, self.out, self.rest, self.ends, self.last = collections.deque(), b'', b'', None, None
-        self.next, self.accepted, self.checked, self.faults = 1, 0, False, 0
+        self.next, self.accepted, self.faults = 1, 0, 0
 
     def __enter__(self):
         return self
@@ -237,7 +244,7 @@ class Client:
 
     def made(self, text):
         words = text.split(' ')
-        if not text or text.startswith('#') or '\n' in text or text.endswith('?'):
+        if not text or text.startswith('#') or '\n' in text:
             raise WrongWords('this is no line')
         if words[0] in COMMANDS:
             if self.next > LAST_SEQUENCE:
@@ -313,26 +320,9 @@ class Client:
         """Tells of a line with its answer."""
         if line.is_lost():
             self.warn('`%s`: number %d is an old one; a new command under it is not carried out' % (line.told[0], line.sequence))
-        if line.checks is not None:
-            self.judge_link(line)
-            return
         if line.is_accepted():
             self.accepted = max(self.accepted, line.sequence)
-            self.check_link(line.sequence)
         self.answered(line)
-
-    def check_link(self, sequence):
-        """After the first command that was accepted over a link, asks whether the station has it: the link may be that of another one."""
-        if not self.checked:
-            self.checked = True
-            line = Line('last %d' % self.station)
-            line.checks = sequence
-            self.put(line)
-
-    def judge_link(self, line):
-        words = line.told[0].split(' ')
-        if words[0] == 'last' and (words[2] == 'none' or int(words[2]) < line.checks):
-            self.warn('this link is not that of station %d: number %d, which was accepted, is not its last' % (self.station, line.checks))
 
     # How it comes back
 
@@ -357,14 +347,18 @@ class Client:
         self.out = b''.join(line.data() for line in self.flight)
 
     def greet(self, until):
-        """Ends a line that was cut, skips what others left unread up to the answer to a mark, and takes the number after the last accepted
-        one."""
-        mark = 'look 0-0-%d' % random.SystemRandom().randrange(2 ** 24)
-        self.out, self.rest, told = ('?\n%s\nlast %d\n' % (mark, self.station)).encode(), b'', None
+        """Ends a line that was cut, skips what others left unread, looks whose link this is, and takes the number after the last accepted
+        one. The first mark may end a cut line, and is lost with it. The second one is answered."""
+        dice = random.SystemRandom()
+        first, second = ('mark %032x' % dice.getrandbits(128) for _ in range(2))
+        self.out, self.rest, told = ('%s\n%s\nstation\nlast %d\n' % (first, second, self.station)).encode(), b'', None
         while told is None:
             self.exchange(until)
-            told = re.search(rb'^%s [^\n]*\n(last [^\n]*)\n' % mark.encode(), self.rest, re.M)
-        self.rest, self.last, self.checked = self.rest[told.end():], told[1].decode(), False
+            told = re.search(rb'^%s\nstation (\d+)\n(last [^\n]*)\n' % second.encode(), self.rest, re.M)
+        self.rest, self.last = self.rest[told.end():], told[2].decode()
+        if int(told[1]) != self.station:
+            self.close()
+            raise OtherStation('this is the link of station %d, not of station %d' % (int(told[1]), self.station))
         words = self.last.split(' ')
         sequence = 0 if words[2] == 'none' else int(words[2])
         if self.next > 1 and sequence >= self.next:
@@ -494,6 +488,8 @@ def shown(line):
     if line.is_accepted():
         carried = ', PDU for the radio ' + line.pdu if line.pdu else ''
         return ['%s as number %d%s' % ('accepted' if line.outcome == 'ok' else 'kept', line.number, carried)]
+    if line.is_forbidden():
+        return ['refused: this station may not give orders, as `%s`' % line.text.split(' ')[2]]
     if line.outcome == 'no':
         return ['refused: ' + ' '.join(words[2:])]
     if line.outcome in OUTAGES:
@@ -601,6 +597,9 @@ def main():
             client.finish()
     except WrongWords as fault:
         parser.error(str(fault))
+    except OtherStation as fault:
+        print(fault, file=sys.stderr)
+        return 3
     except Gone as fault:
         print('the switch does not answer: %s' % fault, file=sys.stderr)
         return 3

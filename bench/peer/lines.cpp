@@ -7,7 +7,7 @@
 
 namespace {
 
-constexpr std::size_t longest_line = 1024;
+constexpr std::size_t longest_line = 1024, longest_mark = 32;
 constexpr std::uint32_t most_32 = 0xFFFFFFFF, most_area = 16383, most_life = 3, most_reference = 255, most_station = 65535;
 
 // The longest form has eight words. Of longer lines only the number of words counts.
@@ -257,9 +257,36 @@ constexpr ListingForm listings[] = {
     {"items", 0, answer_items}, {"due", 1, answer_due}, {"last", 1, answer_last}, {"room", 0, answer_room},
 };
 
-const ListingForm *listing_form(const Words &words)
+// Lines that ask nothing of the register. Each gets the number of its station and the words after the keyword, and prints its answer.
+// Answers whether they have their forms; else nothing is printed.
+
+bool answer_mark(Text &text, std::uint16_t, Word words)
 {
-    for (const ListingForm &form : listings)
+    const std::string_view word = words[0];
+    if (word.empty() || word.size() > longest_mark || !std::all_of(word.begin(), word.end(), [](char byte) { return byte > ' ' && byte <= '~'; }))
+        return false;
+    text << "mark " << word << '\n';
+    return true;
+}
+
+bool answer_station(Text &text, std::uint16_t station, Word)
+{
+    text << "station " << station << '\n';
+    return true;
+}
+
+struct PlainForm {
+    std::string_view keyword;
+    std::size_t words;
+    bool (*answer)(Text &, std::uint16_t, Word);
+};
+
+constexpr PlainForm plain_lines[] = {{"mark", 1, answer_mark}, {"station", 0, answer_station}};
+
+// The form of a keyword and so many words after it.
+template <typename Form, std::size_t Count> const Form *form_in(const Form (&forms)[Count], const Words &words)
+{
+    for (const Form &form : forms)
         if (words.count == form.words + 1 && words.at[0] == form.keyword)
             return &form;
     return nullptr;
@@ -313,8 +340,10 @@ std::string_view answer_line(Text &text, Centre &centre, std::uint16_t station, 
         return answer_command(text, centre, station, *form, words);
     if (const QueryForm *form = query_form(words))
         return answer_query(text, centre, *form, words);
-    if (const ListingForm *form = listing_form(words))
+    if (const ListingForm *form = form_in(listings, words))
         return form->answer(text, centre, words.at.data() + 1) ? std::string_view{} : "value";
+    if (const PlainForm *form = form_in(plain_lines, words))
+        return form->answer(text, station, words.at.data() + 1) ? std::string_view{} : "value";
     return "syntax";
 }
 

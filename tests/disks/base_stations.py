@@ -11,7 +11,7 @@ import subprocess
 import time
 
 from disk_files import DISK
-from many_files import empty, stands_for
+from many_files import empty, giving_orders, stands_for
 from reading_orders import Answered, NoOrder, is_silent, lines_told, number_of, order_that_answers
 from running import SECONDS, Differs, compare, ends, started
 
@@ -33,12 +33,13 @@ def names_of(number):
     return f'{number}.in', f'{number}.out'
 
 
-def words_of(count):
-    return ['serve', DISK, *(name for number in range(1, count + 1) for name in names_of(number))]
+def all_names(count):
+    """Those of so many stations."""
+    return [name for number in range(1, count + 1) for name in names_of(number)]
 
 
 def make_pipes(place, count):
-    for name in words_of(count)[2:]:
+    for name in all_names(count):
         if not place.path(name).exists():
             os.mkfifo(place.path(name))
 
@@ -49,10 +50,12 @@ def serving(place, words, **how):
     return started([*place.command, *words], **how)
 
 
-def serving_pipes(place, count, **how):
-    """The program that serves so many stations over named pipes, which nobody else has open yet."""
+def serving_pipes(place, count, orders=(), **how):
+    """The program that serves so many stations over named pipes, which nobody else has open yet. Of them all may give orders, or these; the
+    others of these are left out."""
     make_pipes(place, count)
-    return serving(place, words_of(count), **how)
+    out = ['-', '-'] * (max(orders, default=0) - count)
+    return serving(place, ['serve', *giving_orders(orders), DISK, *all_names(count), *out], **how)
 
 
 def finish(program, status, err=b''):
@@ -108,16 +111,18 @@ class Station:
                 raise Gone
 
     def come_back(self, mark):
-        """As docs/operate.md says, with this number in the mark; the answer to `last`. It reads while it writes."""
-        data = b'?\nlook 0-0-%d\n' % mark
+        """As docs/operate.md says, with this number in its marks; the answer to `last`. It reads while it writes."""
+        first, second = b'mark %d-1' % mark, b'mark %d-2' % mark
+        data = first + b'\n' + second + b'\n'
         while data:
             reads, writes, _ = select.select([self.back], [self.to], [], SECONDS)
             compare('the program reads or writes', bool(reads or writes), True)
             self.rest += self.piece() if reads else b''
             data = data[os.write(self.to, data):] if writes else data
-        while not (told := self.receive()).startswith(f'look 0-0-{mark} '):
+        while self.receive() != second.decode():
             pass
-        self.pairs += [Answered(b'?', None), Answered(b'look 0-0-%d' % mark, [told])]
+        self.pairs += [Answered(first, None), Answered(second, [second.decode()])]
+        compare('its station', self.ask(b'station'), [f'station {self.number}'])
         return self.ask(b'last %d' % self.number)[0]
 
     def receive(self, seconds=SECONDS):
@@ -277,17 +282,18 @@ def go_on(place, stations, count=LAST):
 
 # The judge
 
-def order_from(stations):
-    """The order of the commands on a disk that was empty: it gives all answers of stations 1, 2 and so on."""
+def order_from(stations, orders=None):
+    """The order of the commands on a disk that was empty: it gives all answers of stations 1, 2 and so on, of which these may give
+    orders."""
     try:
-        return order_that_answers(empty(STATIONS), [station.as_never_stopped() for station in stations])
+        return order_that_answers(empty(STATIONS), [station.as_never_stopped() for station in stations], orders)
     except NoOrder as fault:
         raise Differs(f'no order of the commands: {fault}')
 
 
-def judge(place, stations):
+def judge(place, stations, orders=None):
     """That order. The disk stands for its register."""
-    order = order_from(stations)
+    order = order_from(stations, orders)
     stands_for(place, order.registers[-1])
     return order
 

@@ -1,7 +1,7 @@
 """Outputs of runs of many stations, changed so that no order of the commands gives them; and what the disk keeps. Each change
 has the answers of the stations and their order, and gives the output and what the disk keeps: the number of commands, and each
 station's last one."""
-from reading_orders import is_command, number_of
+from reading_orders import is_command, is_title, number_of
 
 
 def kept_of(order):
@@ -167,7 +167,7 @@ def a_resend_carried_out(dice, stations, order):
 
 def titles_swapped(dice, stations, order):
     lines = printed(said_by(stations)).split(b'\n')
-    heads = [k for k, line in enumerate(lines) if line.startswith(b'station ')]
+    heads = [k for k, line in enumerate(lines) if is_title(line.decode())]
     lines[heads[0]], lines[heads[1]] = lines[heads[1]], lines[heads[0]]
     return b'\n'.join(lines), kept_of(order)
 

@@ -18,22 +18,27 @@ WHEN_BROKEN = 5, b'fault: device\n'
 Ran = collections.namedtuple('Ran', 'status out err')
 
 
-class Files:
-    """The lines of many stations, and the names of their files and of their disk."""
+def giving_orders(stations):
+    """The options by which only these stations may give orders; none for all."""
+    return [word for number in stations or () for word in ('--orders', str(number))]
 
-    def __init__(self, lines, names=None, disk=DISK):
-        self.lines = lines
+
+class Files:
+    """The lines of many stations, and the names of their files and of their disk. Of them all may give orders, or these."""
+
+    def __init__(self, lines, names=None, disk=DISK, orders=None):
+        self.lines, self.orders = lines, orders
         self.names = names or [f's{station}.txt' for station in range(1, len(lines) + 1)]
-        self.words = ['run', disk, *self.names]
+        self.words = ['run', *giving_orders(orders), disk, *self.names]
 
     def write(self, place):
         for name, lines in zip(self.names, self.lines):
             place.write(name, data_of(lines))
 
 
-def by_chance(dice, stations, count):
+def by_chance(dice, stations, count, orders=None):
     """So many lines for each of so many stations."""
-    return Files([lines(dice, count) for _ in range(stations)])
+    return Files([lines(dice, count) for _ in range(stations)], orders=orders)
 
 
 def empty(stations):
@@ -57,7 +62,7 @@ def ran(place, files, **how):
 def ordered(base, files, out):
     """The order of the commands of a run over this register."""
     try:
-        return judged(base, files.lines, out, files.names)
+        return judged(base, files.lines, out, files.names, files.orders)
     except NoOrder as fault:
         raise Differs(f'no order of the commands: {fault}')
 

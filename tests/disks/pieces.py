@@ -1,7 +1,7 @@
 #!/usr/bin/env python3
 """Lines that come together: what the program answers does not depend on how its input is cut into reads (cut.c, preloaded). It reads
 standard input without a disk, and files by `run` and `serve`. A text with every kind of line is cut at each of its bytes; long ones
-are cut at random places, and read whole; and so are the files of four stations at once.
+are cut at random places, and read whole; and so are the files of four stations at once, and orders that are forbidden, among others.
 - A line that comes alone is answered without another one; a program that waits for a second line is found.
 - 64 commands of one station share two syncs, and their answers one write; also commands that come to the flusher slowly share their
   syncs. A long text is read in large pieces.
@@ -27,10 +27,10 @@ from station_lines import Serving, data_of, lines
 from testing import Count, options
 
 SOURCE, APART = (pathlib.Path(__file__).resolve().parent / name for name in ('cut.c', 'apart.c'))
-READY, OUT, AT_HAND = 'ready.img', 'a.out', 64
+READY, ORDERED, OUT, AT_HAND = 'ready.img', 'ordered.img', 'a.out', 64
 TEXT = (b'1 0 rule 234-14-0/24 1 99 1 3600\n2 1 mm 234-14-1 7 10:260\n3 1 mm 234-14-2 7 10:260\nwhere 234-14-2\n'
         b'4 2 sds 234-14-1 234-14-2 48:820405014849\r\n4 2 sds 234-14-1 234-14-2 48:820405014849\n5 3 mm 234-14-3 100 10:260\nmail 234-14-2\n'
-        b'6 4 expire\nno such\n7 4 expire x\n\n# 8\n7 5 expire\n6 5 expire\nradios\n8 6 delete 234-14-2 234-14-1 5 m\nlast 1\n9 7 expire')
+        b'6 4 expire\nno such\n7 4 expire x\nmark here\n\n# 8\n7 5 expire\n6 5 expire\nstation\nradios\n8 6 delete 234-14-2 234-14-1 5 m\nlast 1\n9 7 expire')
 STATIONS = 4
 
 
@@ -83,6 +83,28 @@ def given(there, data):
     """The text in the station's file, and what a register that is empty answers."""
     there.write(LINES, data)
     return Serving(reading.Register(), reading.lines_of(data))
+
+
+def without_orders(there, wanted, env):
+    """By `serve`, of which station 2 alone may give orders."""
+    there.copy(ORDERED, DISK)
+    there.path(OUT).unlink(missing_ok=True)
+    there.gives(['serve', '--orders', '2', DISK, LINES, OUT, '-', '-'], int(wanted.troubled), env=env)
+    compare('answers', there.path(OUT).read_bytes(), text(line for told in wanted.answers for line in told))
+    is_kept(there, wanted)
+
+
+def orders_among_others(cutting, count):
+    """Orders that are forbidden, among commands that are not, cut at each byte."""
+    there, begins = cutting.there, Serving(reading.Register(), [TEXT.split(b'\n')[0]])
+    there.write(LINES, data_of(begins.lines))
+    there.copy(READY, ORDERED)
+    there.gives(['run', ORDERED, LINES], 0, begins.text())
+    there.write(LINES, TEXT)
+    wanted = Serving(begins.registers[-1], reading.lines_of(TEXT), {2})
+    compare('orders forbidden', sum(told[:1] == [f"{line.split(b' ')[0].decode()} no forbidden"] for line, told in zip(wanted.lines, wanted.answers)) > 4, True)
+    for at in range(len(TEXT)):
+        count.case(f'orders, cut at {at}', cutting.answers, without_orders, wanted, [at] if at else [])
 
 
 def at_each_byte(cutting, count):
@@ -241,6 +263,7 @@ def main():
         there.format(READY)
         cutting = Cutting(there, made)
         at_each_byte(cutting, count)
+        orders_among_others(cutting, count)
         interrupted(cutting, count)
         many_reads(cutting, count)
         at_random(cutting, dice, count, words)

@@ -1,9 +1,9 @@
 #!/usr/bin/env python3
 """Runs `serve` of the built program on disks: one station on standard input and output; several over named pipes, files and devices.
 Each line is answered within a time limit before the next is sent. A pipe whose other end is missing, a reader that stalls or goes away,
-a file that can't be opened and a device that fails harm no other station. It judges stops by a signal, the processor time of stations
-that wait, and commands after random pauses. The independent reading (tests/reading/) judges all answers and disks. Prints the seed, the
-first cases that fail, and last 'N passed, M failed'.
+a file that can't be opened and a device that fails harm no other station. Pairs are left out, and only some stations may give orders. It
+judges stops by a signal, the processor time of stations that wait, and commands after random pauses. The independent reading
+(tests/reading/) judges all answers and disks. Prints the seed, the first cases that fail, and last 'N passed, M failed'.
 Usage: tests/run serve PROGRAM [--lines N] [--commands N] [--runs N] [--seed N] (the program itself, not a script that starts it)"""
 import contextlib
 import fcntl
@@ -20,7 +20,7 @@ import refusing
 from base_stations import (STATIONS, Resending, Station, at_once, ends_by, finish, go_on, judge, make_pipes, names_of, on_streams, reader_of,
                            serving, serving_pipes, status_of, stop, with_default, writer_of)
 from disk_files import DISK, HELD, MEMORY, MISSING, file_fault, is_private, place, register_of, text, untouched
-from many_files import LONG, SHORTEST, WHEN_BROKEN, formats
+from many_files import LONG, SHORTEST, WHEN_BROKEN, formats, giving_orders
 from program import queued, receives, waits, without
 from program_disks import peak
 from reading_orders import Answered, NoOrder, number_of
@@ -29,7 +29,7 @@ from recorder import recorder
 from running import SECONDS, Differs, compare, ends
 from station_faults import when_broken
 from station_lines import data_of, lines
-from stations import FIRST, held_open, twice
+from stations import FIRST, held_open, not_served, twice
 from testing import Count, options
 
 FIRST_TOLD, AGAIN_TOLD = text(['1 ok 1 -', '2 ok 2 8:56']), text(['1 no old-sequence 2', '2 kept 2 8:56'])
@@ -164,6 +164,132 @@ def devices(place):
     place.gives(['serve', DISK, 'a.txt', '/dev/full'], 4, err=file_fault('/dev/full'))
     place.gives(['serve', DISK, '.', 'b.out'], 4, err=file_fault('.'))
     place.gives(['show', DISK, 'count'], 0, b'count 4\n')
+
+
+# Pairs that are left out
+
+def left_out(place, dice, count, left):
+    """The numbers of these stations stay free. The others are served by their own."""
+    formats(place, STATIONS, SHORTEST)
+    make_pipes(place, STATIONS)
+    stations = some()
+    served = [station for station in stations if station.number not in left]
+    names = [name for station in stations for name in (('-', '-') if station.number in left else names_of(station.number))]
+    with serving(place, ['serve', DISK, *names]) as program:
+        said = [[b'station', *lines(dice, count)] for _ in served]
+        at_once([functools.partial(talk, place, program, station, one) for station, one in zip(served, said)])
+        finish(program, status_of(served))
+    compare('numbers', [station.pairs[0].told for station in served], [[f'station {station.number}'] for station in served])
+    judge(place, stations)
+    compare('a file of that name', place.path('-').exists(), False)
+
+
+def half_left_out(place):
+    """That is found before the disk is opened. A file can have this name."""
+    place.format()
+    place.write('a.txt', FIRST)
+    place.write('-', FIRST)
+    fault = b'fault: only one of IN and OUT is -\n'
+    for words in ['-', 'a.out'], ['a.txt', '-'], ['-', '-', '-', 'a.out'], ['a.txt', 'a.out', 'a.txt', '-', '-', '-']:
+        refuses(place, [DISK, *words], 2, fault)
+    refuses(place, ['no.img', '--orders', '9', 'a.txt', '-'], 2, fault)
+    place.gives(['serve', DISK, './-', 'a.out'], 0)
+    compare('answers', place.path('a.out').read_bytes(), FIRST_TOLD)
+
+
+def all_left_out(place):
+    """So the disk is opened, and that is all. Each pair counts as a station."""
+    formats(place, STATIONS, SHORTEST)
+    for count in 1, 2, STATIONS:
+        with untouched(place.path()):
+            place.gives(['serve', DISK, *['-'] * 2 * count], 0)
+    refuses(place, [DISK, *['-'] * 2 * (STATIONS + 1)], 2, b'fault: more files than stations\n')
+    refuses(place, ['no.img', '-', '-'], 4, file_fault('no.img', MISSING))
+
+
+def served_then_left_out(place):
+    """What a station had is there when it is served again."""
+    formats(place, STATIONS, SHORTEST)
+    for words, told in ((['-', '-', 'a.txt', 'a.out'], ['station 2', '1 ok 1 -', 'last 2 1 1 -']), (['a.txt', 'a.out', '-', '-'], ['station 1', '1 ok 2 -', 'last 2 1 1 -']),
+                        (['-', '-', 'a.txt', 'a.out', '-', '-'], ['station 2', '1 kept 1 -', 'last 2 1 1 -'])):
+        place.write('a.txt', data_of([b'station', b'1 0 expire', b'last 2']))
+        place.path('a.out').unlink(missing_ok=True)
+        place.gives(['serve', DISK, *words], 0)
+        compare(f'answers of {words}', place.path('a.out').read_bytes(), text(told))
+
+
+# Orders
+
+RULE = b'rule 234-14-0/24 1 99 1 3600'
+ATTACH = b'mm 234-14-2001 7 10:260'
+NOT_FORBIDDEN = [ATTACH, b'sds 234-14-2001 234-14-2001 48:820405014849', b'gsds 234-14-2001 234-14-1000 48:820405014849',
+                 b'sent 234-14-2001 234-14-2001 5 m']
+FORBIDDEN = [RULE, b'unrule 234-14-0/24', b'delete 234-14-2001 234-14-2001 5 m', b'expire']
+
+
+# Station 1 over standard input and output, and two stations that are left out
+PAIRS = ['/dev/stdin', '/dev/stdout', '-', '-', '-', '-']
+
+
+def serves(place, words, said, told, status=0):
+    place.gives(['serve', *words], status, text(told), data=data_of(said), stdin=subprocess.PIPE)
+
+
+def orders_forbidden(place):
+    """They are refused before all else that a register refuses, as one that comes again, and use no number up. That is no trouble. A
+    bad line stays bad."""
+    formats(place, STATIONS, SHORTEST)
+    first = [b'1 0 ' + RULE, b'2 0 expire']
+    serves(place, ['--orders', '1', DISK], first, ['1 ok 1 -', '2 ok 2 -'])
+    for words in (['--orders', '2', DISK, *PAIRS], [DISK, '--orders', '2', *PAIRS], [DISK, *PAIRS, '--orders', '2'], ['--orders=2', DISK, *PAIRS],
+                  ['--orders', '2', '--orders', '3', DISK, *PAIRS], ['--orders', '3', '--orders', '2', '--orders', '3', '--', DISK, *PAIRS]):
+        with untouched(place.path()):
+            serves(place, words, [*first, *(b'%d 5 %s' % (number, body) for number in (1, 2, 3, 2 ** 32 - 1) for body in FORBIDDEN)],
+                   ['1 no forbidden', '2 no forbidden', *(f'{number} no forbidden' for number in (1, 2, 3, 2 ** 32 - 1) for _ in FORBIDDEN)])
+    bad = [b'0 0 expire', b'3 x expire', b'3 0 expire x', b'3 0 rule 234-14-0/24 9 1 1 3600', b'3 0 unrule x', b'3 0 delete 1-1-1 1-1-1 256 m']
+    words = ['value', 'value', 'syntax', 'value', 'value', 'value']
+    serves(place, ['--orders', '2', DISK, *PAIRS], bad, [f'line {number} bad {word}' for number, word in enumerate(words, 1)], 1)
+    serves(place, ['--orders', '2', DISK, *PAIRS], [b'last 1', b'2 0 ' + ATTACH, b'3 0 ' + ATTACH, *(b'%d 0 %s' % pair for pair in enumerate(NOT_FORBIDDEN[1:], 4))],
+           ['last 1 2 2 -', '2 kept 2 -', '3 ok 3 8:56', '4 ok 4 -', '5 no no-members', '6 ok 5 -'])
+    serves(place, ['--orders', '2', DISK, *PAIRS, '--orders', '1'], [b'7 0 expire', b'rules'], ['7 ok 6 -', 'rules 1', 'rule 234-14-0/24 1 99 1 3600'])
+
+
+def orders_of_nobody(place):
+    """A station of `--orders` has no pair. That is found before a name twice, and before the disk is opened."""
+    place.format()
+    for station, words in ((2, [DISK]), (65535, [DISK]), (2, ['no.img']), (3, [DISK, 'a.txt', 'a.out', '-', '-']), (2, [DISK, 'a.txt', 'a.out']),
+                           (3, [DISK, 'a.txt', 'a.out', 'a.txt', 'b.out'])):
+        refuses(place, ['--orders', str(station), *words], 2, not_served(station))
+    refuses(place, ['--orders', '1', '--orders', '4', DISK, '--orders', '3', 'a.txt', 'a.out'], 2, not_served(4))
+
+
+def orders_of_some(place, dice, count, orders):
+    """Of several stations these alone may give orders."""
+    formats(place, STATIONS, SHORTEST)
+    stations = some()
+    with serving_pipes(place, STATIONS, orders) as program:
+        talk_at_once(place, program, stations, dice, count)
+        finish(program, status_of(stations))
+    judge(place, stations, set(orders))
+    refused = [station.number for station in stations if any(told[0].endswith(' no forbidden') for _, told in station.pairs if told)]
+    compare('stations of which an order was forbidden', refused, [station.number for station in stations if station.number not in orders])
+
+
+def orders_on_a_failed_disk(place):
+    """They are forbidden as before."""
+    formats(place, STATIONS, SHORTEST)
+    first, second = some(2)
+    with recorder(place) as made:
+        opening = made.does(['show', DISK, 'count'], 0, b'count 0\n')
+        with serving_pipes(place, 2, orders=(2,), env=made.environment(fails=len(opening) + 1, files=[], ALWAYS=1)) as program:
+            for station in first, second:
+                station.connect_pipes(place, program)
+            for station, wanted in (first, '1 no forbidden'), (second, '1 no device'), (first, '1 no forbidden'), (second, '1 no broken'):
+                compare('the answer', station.ask(b'1 0 expire'), [wanted])
+            compare('the answer', first.ask(b'1 0 ' + ATTACH), ['1 no broken'])
+            for station in first, second:
+                station.end()
+            finish(program, *WHEN_BROKEN)
 
 
 # Refused before a line is served
@@ -551,6 +677,15 @@ def answered(count, words, dice):
     in_a_place(count, words, 'nobody_at_a_pipe', nobody_at_a_pipe, dice)
 
 
+def chosen(count, words, dice):
+    for left in {1}, {2}, {STATIONS}, {1, 2}, {2, 3}, {1, 3}, {1, 2, 3}, {2, 3, 4}:
+        in_a_place(count, words, f'{left} left out', left_out, dice, words.lines // 4, left)
+    for case in half_left_out, all_left_out, served_then_left_out, orders_forbidden, orders_of_nobody, orders_on_a_failed_disk:
+        in_a_place(count, words, case.__name__, case)
+    for orders in (1,), (3,), (2, 4), (1, 2, 3, 4):
+        in_a_place(count, words, f'orders of {orders}', orders_of_some, dice, words.lines, orders)
+
+
 def faulty(count, words, dice):
     in_a_place(count, words, 'files_that_can_not_be_opened', files_that_can_not_be_opened, dice)
     in_a_place(count, words, 'by_one_write', by_one_write)
@@ -582,6 +717,7 @@ def main():
                  standard_streams_that_fail):
         in_a_place(count, words, case.__name__, case)
     answered(count, words, dice)
+    chosen(count, words, dice)
     faulty(count, words, dice)
     waiting(count, words, dice)
     count.end()

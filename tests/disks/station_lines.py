@@ -7,7 +7,7 @@ from reading_disks import copied
 from streams import RULE_BODY, demand, groups
 
 OTHERS = ['count', 'where 234-14-2001', 'mail 234-14-2002', 'rules', 'radios', 'radios 234-14-2000/46', 'items', 'due 300', 'last 1', 'last 3', 'room',
-          '# a remark', '', 'no such', 'where 1-2', '0 0 expire']
+          'mark here', 'mark', 'station', '# a remark', '', 'no such', 'where 1-2', '0 0 expire']
 
 
 def bodies(dice):
@@ -53,10 +53,10 @@ class Serving:
     """Lines that a register has served: their answers, whether it was troubled, its state at first and after each command that it
     accepted, and how many of the commands it had accepted after each line."""
 
-    def __init__(self, register, lines):
+    def __init__(self, register, lines, orders=None):
         self.lines, now = lines, copied(register)
         self.answers, self.troubled, self.registers, self.counts = [], False, [register], []
-        for told, is_bad in reading.answered(now, 1, lines):
+        for told, is_bad in reading.answered(now, 1, lines, orders):
             self.answers.append(told)
             self.troubled |= is_bad
             if now.count > self.registers[-1].count:

@@ -2,7 +2,7 @@
 """Runs the files of many stations on one disk: the worked cases, each once and again; 8 stations of 500 lines and 64 stations, on
 disks where checkpoints go on beside and where none does; files that are named twice, too many, missing, or can't be read to their
 end; slow syncs, and stations without a thread. The independent reading (tests/reading/) judges what such a run prints and leaves on
-the disk, and has to refuse outputs and disks that are changed here. Prints the seed, the first cases that fail, and last
+the disk, and has to refuse outputs and disks that are changed here. So it is where only some stations may give orders. Prints the seed, the first cases that fail, and last
 'N passed, M failed'.
 Usage: tests/run stations PROGRAM [--lines N] [--seed N] (the program itself, not a script that starts it)"""
 import contextlib
@@ -33,7 +33,7 @@ SHOWN = 'where 234-14-2001 station 2 la 8 present'
 ONCE = text(['station 1 a.txt', '1 ok 1 -', '2 ok 2 8:56', 'station 2 b.txt', '1 ok 3 8:50', SHOWN, 'count 3'])
 AGAIN = text(['station 1 a.txt', '1 no old-sequence 2', '2 kept 2 8:56', 'station 2 b.txt', '1 kept 3 8:50', SHOWN, 'count 3'])
 WATCHER = [b'count', b'# a remark', b'where 234-14-2001', b'mail 234-14-2002', b'groups 234-14-2001', b'members 234-14-1000', b'rules', b'radios',
-           b'items', b'due 3600', b'last 1', b'room', b'count']
+           b'items', b'due 3600', b'last 1', b'room', b'mark here', b'station', b'count']
 
 
 # Worked cases
@@ -135,6 +135,27 @@ def from_layout_1(place, dice):
         compare('the layout of the current side', opens(place.image()).form, NUMBERED)
 
 
+def with_orders_of(place, dice, orders):
+    """Of four stations these alone may give orders. A run of other lines in which all may goes on from what they did."""
+    formats(place, 4, SHORTEST)
+    files = by_chance(dice, 4, 200, orders)
+    files.write(place)
+    done = ran(place, files)
+    compare('standard error', done.err, b'')
+    order = ordered(empty(4), files, done.out)
+    compare('status', done.status, int(is_troubled(done.out)))
+    refused = [station for station, said in enumerate(parts(done.out, files.names), 1) if any(line.endswith(' no forbidden') for line in said)]
+    compare('stations of which an order was forbidden', refused, [station for station in range(1, 5) if station not in orders])
+    for others in None, {1, 2}, {2, 3, 4}:
+        as_if = Files(files.lines, orders=others)
+        compare(f'the judge takes it for orders of {others}', is_given(as_if, done.out, kept_of(order)), (others or {1, 2, 3, 4}) == orders)
+    stands_for(place, order.registers[-1])
+    again = runs(place, files, order.registers[-1])
+    files = by_chance(dice, 4, 50)
+    files.write(place)
+    runs(place, files, again.registers[-1])
+
+
 def all_shown(place, dice):
     """After a run of four stations `show` prints what the reading does."""
     formats(place, 4, SHORTEST)
@@ -148,7 +169,7 @@ def all_shown(place, dice):
 def is_given(files, out, kept):
     """Whether some order gives this output and what the disk keeps."""
     try:
-        return kept == kept_of(judged(empty(len(files.lines)), files.lines, out, files.names))
+        return kept == kept_of(judged(empty(len(files.lines)), files.lines, out, files.names, files.orders))
     except NoOrder:
         return False
 
@@ -190,6 +211,20 @@ def named_twice(place):
     refuses(place, ['a.txt', 'b.txt', 'c.txt', 'e.txt', 'f.txt', 'a.txt'], 2, twice('a.txt'))
     refuses(place, ['', 'no.txt', ''], 2, twice(''))
     place.gives(['run', 'no.img', 'a.txt', 'a.txt'], 2, err=twice('a.txt'))
+
+
+def not_served(station):
+    return f'fault: station {station} of --orders is not served\n'.encode()
+
+
+def orders_of_nobody(place):
+    """A station of `--orders` has no file. That is found after a name twice, and before the disk is opened."""
+    prepared(place)
+    refuses(place, ['a.txt', 'b.txt', '--orders', '3'], 2, not_served(3))
+    refuses(place, ['--orders', '65535', 'a.txt', '--orders', '2'], 2, not_served(65535))
+    refuses(place, ['--orders=1', '--orders=3', '--orders=4', 'a.txt', 'b.txt'], 2, not_served(3))
+    refuses(place, ['--orders', '3', 'a.txt', 'a.txt'], 2, twice('a.txt'))
+    place.gives(['run', '--orders', '2', 'no.img', 'no.txt'], 2, err=not_served(2))
 
 
 def one_file_under_two_names(place):
@@ -306,6 +341,8 @@ def many(count, words, dice):
     in_a_place(count, words, MEMORY, '64 stations, checkpoints beside', beside_checkpoints, most)
     in_a_place(count, words, MEMORY, 'disks of both layouts', from_layout_1, dice)
     in_a_place(count, words, MEMORY, 'what is shown', all_shown, dice)
+    for orders in {1}, {3}, {2, 4}, {1, 2, 3, 4}:
+        in_a_place(count, words, MEMORY, f'orders of {orders}', with_orders_of, dice, orders)
 
 
 def changed(count, words, dice):
@@ -316,7 +353,7 @@ def changed(count, words, dice):
 
 
 def faulty(count, words, dice):
-    for case in named_twice, one_file_under_two_names, too_many, not_opened, not_read:
+    for case in named_twice, orders_of_nobody, one_file_under_two_names, too_many, not_opened, not_read:
         in_a_place(count, words, MEMORY, case.__name__, case)
     with place(words.program, MEMORY) as there, recorder(there) as made:
         count.case('not_read_to_its_end', not_read_to_its_end, there, made, dice)

@@ -67,10 +67,10 @@ def called(there, *words, data=None, status=0, err=b''):
 
 
 @contextlib.contextmanager
-def serves(there):
+def serves(there, orders=()):
     """The program over an empty register, as the unit serves it."""
     formats(there, STATIONS, LONG)
-    with held(there) as program:
+    with held(there, orders) as program:
         yield program
 
 
@@ -159,7 +159,7 @@ def references_that_are_free(there):
 def wrong_words(there):
     """They are no line, or would harm: nothing is sent."""
     with serves(there):
-        for words in (['count?'], ['message', FROM, TO], ['message', FROM, TO, 'TWO', 'WORDS'], ['#'], ['message', FROM, TO, 'x' * 252],
+        for words in (['message', FROM, TO], ['message', FROM, TO, 'TWO', 'WORDS'], ['#'], ['message', FROM, TO, 'x' * 252],
                       ['4000000000', '0', 'expire']):
             done = subprocess.run([DESK, there.folder, '1', *words], stdin=subprocess.DEVNULL, capture_output=True, timeout=PATIENCE)
             compare(f'status and output of {words}', (done.returncode, done.stdout), (2, b''))
@@ -311,10 +311,53 @@ def after_half_a_command(there):
     with serves(there):
         called(there, *RULE.split(' '))
         to = os.open(there.path('1.in'), os.O_WRONLY)
-        os.write(to, b'last 1\n2 0 expire\nlast 1\ncount\n3 0 rule 234-15-0/24 1 99 1 36')
+        os.write(to, b'last 1\nmark 1\n2 0 expire\nstation\nlast 1\ncount\nmark 2\n3 0 rule 234-15-0/24 1 99 1 36')
         os.close(to)
         compare('the next number', called(there, 'expire'), '3 ok 3 -\n')
         compare('one rule', called(there, 'rules').split('\n')[0], 'rules 1')
+
+
+def marks_and_its_number(there):
+    """Also in words, and among other lines in flight."""
+    with serves(there):
+        compare('a mark', called(there, 'mark', 'here'), 'mark here\n')
+        compare('its number', called(there, 'station'), 'station 1\n')
+        compare('no mark', re.sub(r'\d+', 'N', called(there, 'mark', 'x' * 33, status=1)), 'line N bad value\n')
+        with client(there) as one:
+            asked = [one.submit(line) for line in ('mark a', 'expire', 'mark ab', 'station', 'mark a', 'count')]
+            one.finish()
+            compare('answers', [line.told for line in asked], [['mark a'], ['1 ok 1 -'], ['mark ab'], ['station 1'], ['mark a'], ['count 1']])
+            compare('warnings', one.warnings, [])
+
+
+def orders_that_are_forbidden(there):
+    """They are shown as such, and have used no number up."""
+    with serves(there, orders=(2,)):
+        for words in RULE.split(' '), ['expire'], ['unrule', '234-14-0/24'], ['delete', TO, FROM, '5', 'm']:
+            compare('refused', called(there, *words, status=1), '1 no forbidden\n')
+        compare('no order', called(there, 'attach', FROM, '7', status=1), '1 no unknown-identity 14:7610\n')
+        with client(there) as one:
+            line = one.ask('expire')
+            compare('in words', desk.shown(line), ['refused: this station may not give orders, as `expire`'])
+            compare('its outcome', (line.outcome, line.number, line.pdu, line.is_lost()), ('no', None, None, False))
+        compare('the count', called(there, 'count'), 'count 0\n')
+
+
+def the_link_of_another_station(there):
+    """A desk sends no command over it."""
+    with serves(there):
+        called(there, *RULE.split(' '))
+        for name in 'in', 'out':
+            there.path(f'2.{name}').symlink_to(there.path(f'1.{name}'))
+        done = subprocess.run([DESK, there.folder, '2', 'expire'], stdin=subprocess.DEVNULL, capture_output=True, timeout=PATIENCE)
+        compare('the desk', (done.returncode, done.stdout, done.stderr), (3, b'', b'this is the link of station 1, not of station 2\n'))
+        one = desk.Client(desk.link_to(str(there.folder), 2), 2)
+        for _ in range(2):
+            try:
+                raise Differs(f'an answer {one.ask("expire").told}')
+            except desk.OtherStation:
+                compare('the link', one.ends, None)
+        compare('the count', called(there, 'count'), 'count 1\n')
 
 
 def two_desks(there):
@@ -475,7 +518,8 @@ def main():
     dice, count = random.Random(words.seed), Count()
     cases = [(texts_as_documented,), (texts_again, dice), (other_pdus,), (raw_and_in_words,), (to_a_group,), (references_that_are_free,), (wrong_words,),
              (a_script,), (line_by_line,), (as_a_module, dice, words.lines), (over_stops, dice, words.stops, 16), (over_stops, dice, words.stops, 1),
-             (an_old_number,), (an_older_register,), (after_half_a_command,), (two_desks,), (nobody_serves,), (on_a_terminal,), (watched,), (radios_forgotten, dice), (not_forgotten,)]
+             (an_old_number,), (an_older_register,), (after_half_a_command,), (marks_and_its_number,), (orders_that_are_forbidden,),
+             (the_link_of_another_station,), (two_desks,), (nobody_serves,), (on_a_terminal,), (watched,), (radios_forgotten, dice), (not_forgotten,)]
     for case, *more in [*cases, *[(over_a_socket,)] * bool(shutil.which('socat'))]:
         with place(words.program, MEMORY) as there:
             count.case(case.__name__, reaches, case, there, *more)

@@ -3,7 +3,8 @@
 and its instructions, where valgrind is installed. Threads of a run that wait would count too, so these are counted of LINES, which answers
 lines of standard input by one thread over a register in memory (crates/benchmarks). No line's cost may grow with the whole of a table, so a
 full table may cost a line a few times as much and not hundreds of times. No line may take more than four times the bytes of the longest
-line, or hold more than its answer once it is answered. PDUs of up to 64 bits take no allocation. A listing of a full register may make a few
+line, or hold more than its answer once it is answered. PDUs of up to 64 bits take no allocation, nor do marks, a station's number and
+orders that are forbidden. A listing of a full register may make a few
 allocations in all, as its text grows. A checkpoint may make a few for each entry of the register, for its copy. A check, a listing, a dump
 and a checkpoint beside commits may take some sixteen times the instructions on sixteen times the size (disk_costs.py). Every figure is the
 difference of two runs, so that starting and opening the disk cost nothing. Prints the figures, the cases that fail, and last 'N passed,
@@ -31,6 +32,7 @@ MOST_BYTES, MOST_HELD = 4 * 1024, 128
 # What comes after each command that is committed alone, and how many such lines are served
 ALONE, ALONE_EACH = b'\ncount\n', 32
 LISTINGS, MOST_PER_LISTING = ('rules', 'radios', 'radios 234-14-0/24', 'items', 'due 4294967295', 'last 1', 'room'), 40
+NEEDS_NOTHING = 'mark ' + 'x' * 32, 'station', '1 0 expire', '1 0 rule 234-14-0/24 1 99 1 3600'
 RADIO, ATTACH = '234-14-{}', '10:260'
 
 
@@ -123,6 +125,13 @@ class Costs:
         self.run(['run', DISK, LINES])
         return self.figures()[0]
 
+    def said(self, line, count):
+        """Allocations of a service in which a station that may give no orders says this line so many times."""
+        self.there.copy('full.img', DISK)
+        self.there.write(LINES, f'{line}\n'.encode() * count)
+        self.run(['serve', '--orders', '2', DISK, LINES, '/dev/null', '-', '-'])
+        return self.figures()[0]
+
 
 class Figure:
     """Another one of the figures of such runs."""
@@ -190,6 +199,13 @@ def without_allocations(in_memory):
     at_most(in_memory, attaches, a_line(in_memory, expiries) + 0.1, 'allocations without a disk')
 
 
+def no_allocations(small, line):
+    each = (small.said(line, 3 * LINES_EACH) - small.said(line, LINES_EACH)) / (2 * LINES_EACH)
+    print(f'{line}: {each:,.2f} allocations', flush=True)
+    if each > 0.05:
+        raise Differs(f'{each:,.2f} allocations a line')
+
+
 def held(full):
     """Each line is committed alone."""
     full.after_each = ALONE
@@ -228,6 +244,8 @@ def main():
         for kind in KINDS:
             count.case(f'{kind.__name__}, bytes', at_most, Figure(full, 1), kind, MOST_BYTES, 'bytes')
         count.case('PDUs of few bits', without_allocations, InMemory(one, made))
+        for line in NEEDS_NOTHING:
+            count.case(line, no_allocations, small, line)
         count.case('bytes held', held, full)
         for query in LISTINGS:
             count.case(query, a_listing, full, query)

@@ -15,7 +15,7 @@ import tempfile
 
 import reading
 import refusing
-from reading_queries import LISTS, QUERIES
+from reading_queries import LISTS, PLAIN, QUERIES
 
 HERE = pathlib.Path(__file__).resolve().parent
 DATA = (HERE / 'growths.txt').read_bytes()
@@ -44,7 +44,7 @@ def wanting(at):
 def may_want(line):
     """Whether a line may be out of memory: of the queries the lists alone."""
     word, *others = line.split(b' ')
-    return bool(line) and not line.startswith(b'#') and ((word, len(others)) not in QUERIES or word in LISTS)
+    return bool(line) and not line.startswith(b'#') and ((word, len(others)) not in {**QUERIES, **PLAIN} or word in LISTS)
 
 
 FULL = answers(LINES)

@@ -84,6 +84,7 @@ def what_is_shown(place):
                 (['a' * 1024], 1, b'line 1 bad syntax\n'), (['a' * 1025], 1, b'line 1 bad too-long\n'),
                 (['#' * 1025], 1, b'line 1 bad too-long\n'), (['mail', '1-2-3'], 0, b'mail 1-2-3 0\n'),
                 (['rules'], 0, b'rules 0\n'), (['radios'], 0, b'radios 0\n'), (['radios', '1-2-3/48'], 0, b'radios 1-2-3/48 0\n'),
+                (['mark', 'here'], 1, b'line 1 bad syntax\n'), (['station'], 1, b'line 1 bad syntax\n'),
                 (['radios', ''], 1, b'line 1 bad value\n'), (['items'], 0, b'items 0\n'), (['due', '7'], 0, b'due 7 0\n'),
                 (['due', '4294967296'], 1, b'line 1 bad value\n'), (['last', '1'], 0, b'last 1 none\n'), (['rules', 'x'], 1, b'line 1 bad syntax\n'),
                 (['room'], 0, b'room rules 0/16 radios 0/16 items 0/256 stations 0/4 fullest none\n')]:
@@ -160,7 +161,13 @@ def wrong_words(place):
     place.format()
     place.write('a.txt', LINES)
     for words in (['format'], ['format', 's.toml'], ['format', 's.toml', 'e.img', 'x'], ['run'], ['run', 'd.img'],
-                  ['serve'], ['serve', 'd.img', 'a.txt'], ['show'], ['show', 'd.img'], ['dump'], ['dump', 'd.img', 'x'], ['load'],
+                  ['serve'], ['serve', 'd.img', 'a.txt'], ['serve', 'd.img', '-'], ['serve', 'd.img', '-', '-', '-'],
+                  *(['serve', '--orders', word, 'd.img'] for word in ('0', '65536', 'x', '', '-1', '1.0', '1,2', '0x1', ' 1', '9' * 30, 'd.img')),
+                  *([name, *words] for name, more in (('serve', []), ('run', ['a.txt'])) for words in (
+                      ['d.img', *more, '--orders'], ['--orders', 'd.img', *more], ['--orders=', 'd.img', *more], ['--orders', '0', 'd.img', *more],
+                      ['--order', '1', 'd.img', *more], ['-o', '1', 'd.img', *more], ['--orders', '1', '--orders', 'x', 'd.img', *more])),
+                  ['--orders', '1', 'serve', 'd.img'], ['--orders', '1'], ['show', '--orders', '1', 'd.img', 'count'],
+                  ['format', '--orders', '1', 's.toml', 'e.img'], ['dump', '--orders', '1', 'd.img'], ['check', '--orders', '1', 'd.img'], ['show'], ['show', 'd.img'], ['dump'], ['dump', 'd.img', 'x'], ['load'],
                   ['load', 'a.txt', 's.toml'], ['load', 'a.txt', 's.toml', 'e.img', 'x'], ['no such'], [''], [b'show', b'd.img', b'\xff']):
         with subprocess.Popen([*place.command, *words], stdin=subprocess.DEVNULL, stdout=subprocess.PIPE, stderr=subprocess.PIPE,
                               cwd=place.folder) as program:
@@ -181,8 +188,8 @@ def help_and_version(place):
     names = [b'format', b'run', b'serve', b'show', b'check', b'dump', b'load']
     for words, parts in (([], [*names, b'--help', b'--version', b'\nExample: tetra-switch < ']),
                          (['format'], [b'SETTINGS', b'DISK', b'\nExample: tetra-switch format ']),
-                         (['run'], [b'DISK', b'FILE', b'\nExample: tetra-switch run ']),
-                         (['serve'], [b'DISK', b'IN', b'OUT', b'\nExample: tetra-switch serve ']),
+                         (['run'], [b'--orders', b'DISK', b'FILE', b'\nExample: tetra-switch run ']),
+                         (['serve'], [b'--orders', b'DISK', b'IN', b'OUT', b'- -', b'\nExample: tetra-switch serve ']),
                          (['show'], [b'DISK', b'WORD', b'\nExample: tetra-switch show ']),
                          (['check'], [b'DISK', b'\nExample: tetra-switch check ']),
                          (['dump'], [b'DISK', b'\nExample: tetra-switch dump ']),

@@ -10,7 +10,7 @@ import random
 import re
 import subprocess
 
-from base_stations import STATIONS, Station, finish, judge, serving_pipes, status_of
+from base_stations import STATIONS, Station, finish, judge, make_pipes, names_of, serving_pipes, status_of
 from clients import desk
 from disk_files import DISK, register_of, run_cases, settings, text
 from images import are_same
@@ -146,33 +146,35 @@ def copies_in_service(there):
 
 
 def two_swapped(there):
-    """Each base station has the other's pipes. It finds that out by `last`, and the desk by itself. Then both are put right."""
+    """Each base station has the other's pipes. It finds that out by `station`. Then both are put right."""
     formats(there, STATIONS, SHORTEST)
     with served(there, 2) as [one, two]:
         said(one, f'1 0 {RULE}', f'2 0 mm 234-14-11 7 {ATTACH}')
         said(two, f'1 0 mm 234-14-21 7 {ATTACH}')
         # The base station of station 1 sends by the pipes of station 2.
-        compare('accepted, and not there', said(two, f'3 0 mm 234-14-11 8 10:200', 'last 1'), ['3 ok 4 8:50', 'last 1 2 2 8:56'])
+        compare('accepted as another one', said(two, f'3 0 mm 234-14-11 8 10:200', 'last 1', 'station'), ['3 ok 4 8:50', 'last 1 2 2 8:56', 'station 2'])
         compare('a radio at the other station', said(one, 'where 234-14-11'), ['where 234-14-11 station 2 la 8 present'])
-        compare('put right', said(one, 'last 1', '3 0 mm 234-14-11 8 10:200'), ['last 1 2 2 8:56', '3 ok 5 8:50'])
+        compare('put right', said(one, 'station', 'last 1', '3 0 mm 234-14-11 8 10:200'), ['station 1', 'last 1 2 2 8:56', '3 ok 5 8:50'])
         compare('the other goes on', said(two, 'last 2', f'4 0 {EXPIRE}'), ['last 2 3 4 8:50', '4 ok 6 -'])
         compare('where it is', said(one, 'where 234-14-11'), ['where 234-14-11 station 1 la 8 present'])
 
 
 def a_client_that_is_swapped(there):
-    """The client of station 1 warns once that its link is that of station 2."""
+    """The client of station 1 finds that its link is that of station 2, and sends no command."""
     formats(there, STATIONS, SHORTEST)
-    with serving_pipes(there, 2), contextlib.ExitStack() as stack:
-        warned = {}
-        for station, link in (1, 2), (2, 2):
-            warned[station] = []
-            with desk.Client(desk.link_to(str(there.folder), link), station, warn=warned[station].append) as client:
-                for _ in range(3):
-                    client.ask(EXPIRE)
-                if station == 1:
-                    stack.callback(os.close, os.open(there.path('2.in'), os.O_WRONLY))
-                    stack.callback(os.close, os.open(there.path('2.out'), os.O_RDONLY))
-        compare('warnings', warned, {1: ['this link is not that of station 1: number 1, which was accepted, is not its last'], 2: []})
+    make_pipes(there, 2)
+    with contextlib.ExitStack() as stack:
+        for name in names_of(2):
+            stack.callback(os.close, os.open(there.path(name), os.O_RDWR))
+        stack.enter_context(serving_pipes(there, 2))
+        for station in 1, 2:
+            found, warned = None, []
+            with desk.Client(desk.link_to(str(there.folder), 2), station, warn=warned.append) as client:
+                try:
+                    found = client.ask(EXPIRE).told
+                except desk.OtherStation as fault:
+                    found = str(fault)
+            compare('what it finds', (found, warned), (['1 ok 1 -'] if station == 2 else 'this is the link of station 2, not of station 1', []))
 
 
 if __name__ == '__main__':

@@ -193,7 +193,10 @@ class Service:
         formats(self.disk, stations, SHORTEST)
         self.disk.path().rename(self.disk.path('switch.disk'))
         self.unit, self.expiry = (unit_for(unit, place, self.run.parent, self.state.parent) for unit in UNITS[:2])
-        self.env = {**os.environ, 'STATIONS': str(stations)}
+        # The stations that may give orders
+        named = re.search(r'^Environment="ORDERS=([\d ]+)"$', self.unit, re.M)[1]
+        self.orders = {int(number) for number in named.split(' ')}
+        self.env = {**os.environ, 'STATIONS': str(stations), 'ORDERS': named}
         self.how = {'cwd': self.run, 'env': self.env}
 
     def makes_pipes(self, **env):
@@ -239,21 +242,24 @@ def its_commands(place, dice):
     # Each item of this test has a deadline in the past: so the greatest moment removes what the time of now does.
     expiries = Station(4)
     expiries.pairs = [Answered(f'{number} {2 ** 32 - 1} expire'.encode(), [f'{number} ok {count + number} -']) for number in (1, 2)]
-    judge(service.disk, [*stations, Station(3), expiries])
+    judge(service.disk, [*stations, Station(3), expiries], service.orders)
 
 
 def sixty_four(place, dice):
-    """By its drop-in of two lines the unit serves 64 stations, each with pipes of its own."""
+    """By its drop-in of two lines the unit serves 64 stations, each with pipes of its own. The desk gives the only order."""
     shown = re.search(r'#   (\[Service\])\n#   Environment=STATIONS=(\d+)\n', UNITS[0].read_text())
     service = Service(place, int(shown[2]))
     service.makes_pipes()
     numbers = range(1, int(shown[2]) + 1)
     with service.started() as program:
         stations = connected(service.pipes, program, numbers)
-        at_once([functools.partial(station.ask_all, [b'1 0 expire', b'last %d' % station.number]) for station in stations])
+        compare('the desk', stations[2].ask(b'1 0 rule 0-0-0/0 1 99 1 60'), ['1 ok 1 -'])
+        at_once([functools.partial(station.ask_all, [b'station', b'2 0 mm 1-1-1 7 10:260', b'last %d' % station.number])
+                 for station in stations])
         for station in stations:
-            accepted = station.pairs[0].told[0].split(' ')[2]
-            compare(f'station {station.number}', [pair.told for pair in station.pairs], [[f'1 ok {accepted} -'], [f'last {station.number} 1 {accepted} -']])
+            told = [pair.told[0] for pair in station.pairs[-3:]]
+            accepted, number = told[1].split(' ')[2], station.number
+            compare(f'station {number}', told, [f'station {number}', f'2 ok {accepted} 8:56', f'last {number} 2 {accepted} 8:56'])
             station.leave()
         ends_by(program, signal.SIGTERM)
 
@@ -266,12 +272,31 @@ def a_device_that_fails(place, _):
         opening = made.does(['show', 'switch.disk', 'count'], 0, b'count 0\n', disk='switch.disk')
         service.env.update(made.environment(fails=len(opening) + 1, disk='switch.disk', files=[], ALWAYS=1))
         with service.started() as program:
-            [station] = connected(service.pipes, program, (1,))
+            [station] = connected(service.pipes, program, (3,))
             station.send(b'1 0 expire')
             waits(lambda: program.poll() is not None)
             compare('its end', (program.returncode, program.stderr.read()), (-signal.SIGUSR1, b'fault: device\n'))
             station.leave()
     compare('it is not started again', 'SIGUSR1' in re.search('^RestartPreventExitStatus=(.*)$', service.unit, re.M)[1].split(' '), True)
+
+
+def orders_of_the_desk(place, _):
+    """Base stations may give none, unless a drop-in lets all."""
+    service, number = Service(place, STATIONS), 0
+    compare('stations that may give orders', service.orders, {3, 4})
+    for orders in service.env['ORDERS'], '2', '':
+        service.env['ORDERS'] = orders
+        for name in os.listdir(service.run):
+            service.pipes.path(name).unlink()
+        service.makes_pipes()
+        with service.started() as program:
+            stations = connected(service.pipes, program, range(1, STATIONS + 1))
+            number += 1
+            told = [station.ask(b'%d 0 expire' % number)[0].split(' ')[1] for station in stations]
+            for station in stations:
+                station.leave()
+            ends_by(program, signal.SIGTERM)
+        compare(f'answers with orders of {orders!r}', told, ['ok' if not orders or str(one.number) in orders else 'no' for one in stations])
 
 
 def groups_of_their_own(place, _):
@@ -292,7 +317,7 @@ def main():
     print(f'seed {words.seed}', flush=True)
     dice, count = random.Random(words.seed), Count()
     cases = [(over_pipes,), (as_serve_sh_shows,), (over_a_socket, 'socat'), (over_a_serial_line, 'socat'), (verified, 'systemd-analyze'),
-             (its_commands,), (sixty_four,), (a_device_that_fails,), (groups_of_their_own,)]
+             (its_commands,), (sixty_four,), (orders_of_the_desk,), (a_device_that_fails,), (groups_of_their_own,)]
     for case, *needed in cases:
         if count.has(case.__name__, *needed):
             with place(words.program) as there:

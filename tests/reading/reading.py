@@ -7,7 +7,7 @@ import collections
 import sys
 
 from reading_pdus import Message, Refused, Report, accept, acknowledgement, read_sds, read_up, reject
-from reading_queries import QUERIES
+from reading_queries import PLAIN, QUERIES
 from reading_words import BadLine, bad_value, bit_string, identity, number, prefix, print_bits, print_identity
 
 LAST_NUMBER = 2 ** 62
@@ -258,12 +258,16 @@ def delete_body(words):
 
 COMMANDS = {(b'rule', 5): rule_body, (b'unrule', 1): unrule_body, (b'mm', 3): mobility_body, (b'sds', 3): short_data_body,
             (b'gsds', 3): group_short_data_body, (b'sent', 4): sent_body, (b'expire', 0): expire_body, (b'delete', 4): delete_body}
+ORDERS = b'rule', b'unrule', b'delete', b'expire'
 
 
-def command(register, station, words):
+def command(register, station, words, orders):
+    """Of a station that may give no orders these are refused before anything is asked of the register."""
     sequence = number(words[0], 1, 2 ** 32 - 1)
     moment = number(words[1], 0, 2 ** 32 - 1)
     body = COMMANDS[words[2], len(words) - 3](words[3:])
+    if words[2] in ORDERS and orders is not None and station not in orders:
+        return [f'{sequence} no forbidden']
     try:
         word, kept, pdu = register.apply(station, sequence, moment, body)
         return [f'{sequence} {word} {kept} {print_bits(pdu)}']
@@ -271,15 +275,17 @@ def command(register, station, words):
         return [' '.join(filter(None, [str(sequence), 'no', refused.word, refused.carried]))]
 
 
-def answer(register, station, line):
-    """The answer's lines, or BadLine; nothing for an empty line or a comment."""
+def answer(register, station, line, orders=None):
+    """The answer's lines, or BadLine; nothing for an empty line or a comment. With a set of stations only these may give orders."""
     if len(line) > 1024:
         raise BadLine('too-long')
     if not line or line.startswith(b'#'):
         return []
     words = line.split(b' ')
     if len(words) > 2 and (words[2], len(words) - 3) in COMMANDS:
-        return command(register, station, words)
+        return command(register, station, words, orders)
+    if (words[0], len(words) - 1) in PLAIN:
+        return PLAIN[words[0], len(words) - 1](station, words[1:])
     if (words[0], len(words) - 1) in QUERIES:
         return QUERIES[words[0], len(words) - 1](register, words[1:])
     raise BadLine('syntax')
@@ -292,24 +298,24 @@ def lines_of(data):
     return lines + [last] if last else lines
 
 
-def answers(data, station=1, limits=None):
+def answers(data, station=1, limits=None, orders=None):
     """For each line of these bytes the lines of its answer, and whether it is a bad line."""
-    return answered(Register(limits), station, lines_of(data))
+    return answered(Register(limits), station, lines_of(data), orders)
 
 
-def answered(register, station, lines):
+def answered(register, station, lines, orders=None):
     """The same for lines that a register is given."""
     for place, line in enumerate(lines, 1):
         try:
-            yield answer(register, station, line), False
+            yield answer(register, station, line, orders), False
         except BadLine as fault:
             yield [f'line {place} bad {fault}'], True
 
 
-def serve(data, station=1, limits=None):
+def serve(data, station=1, limits=None, orders=None):
     """The text that answers these bytes, and whether the run was troubled."""
     out, troubled = [], False
-    for told, bad in answers(data, station, limits):
+    for told, bad in answers(data, station, limits, orders):
         out += told
         troubled |= bad
     return ''.join(line + '\n' for line in out).encode(), troubled

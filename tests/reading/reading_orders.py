@@ -52,12 +52,17 @@ def answered(lines, said):
     return pairs
 
 
+def is_title(line):
+    """Whether it begins the answers of a station in what a run prints. The answer to `station` has two words, and names no file."""
+    return line.startswith('station ') and line.count(' ') > 1
+
+
 def parts(out, names):
     """What a run with these files prints, as the lines of each station."""
     said = out.decode(errors='replace').split('\n')
     if said.pop():
         raise NoOrder('the output ends within a line')
-    heads = [k for k, line in enumerate(said) if line.startswith('station ')]
+    heads = [k for k, line in enumerate(said) if is_title(line)]
     wanted = [f'station {number} {name}' for number, name in enumerate(names, 1)]
     if [said[k] for k in heads] != wanted or said[:1] != wanted[:1]:
         raise NoOrder(f'the titles {[said[k] for k in heads][:9]}')
@@ -73,13 +78,14 @@ def number_of(told):
 
 
 class Order:
-    """Accepted commands, each a station and its line: the register at first and after each of them, and their answers."""
+    """Accepted commands, each a station and its line: the register at first and after each of them, and their answers. Of the stations
+    all may give orders, or these."""
 
-    def __init__(self, base, commands):
-        self.commands, self.registers, self.answers, self.places = list(commands), [base], [], {}
+    def __init__(self, base, commands, orders=None):
+        self.commands, self.registers, self.answers, self.places, self.orders = list(commands), [base], [], {}, orders
         for place, (station, line) in enumerate(self.commands, 1):
             now = copied(self.registers[-1])
-            self.answers.append(reading.answer(now, station, line))
+            self.answers.append(reading.answer(now, station, line, orders))
             if now.count != base.count + place:
                 raise NoOrder(f'the command {base.count + place} of the order, {line!r} of station {station}, is not accepted')
             self.registers.append(now)
@@ -92,7 +98,7 @@ class Order:
         """How a line is answered after so many commands of the order, and whether that changes nothing."""
         now = copied(self.registers[place])
         try:
-            return reading.answer(now, station, line), now.count == self.registers[place].count
+            return reading.answer(now, station, line, self.orders), now.count == self.registers[place].count
         except reading.BadLine as fault:
             return [f'line {number} bad {fault}'], True
 
@@ -102,7 +108,7 @@ def is_command(line):
     return not line.startswith(b'#') and len(words) > 2 and (words[2], len(words) - 3) in reading.COMMANDS
 
 
-def order_of(base, stations):
+def order_of(base, stations, orders=None):
     """The order that the numbers in the answers name. Of each station, in turn, its lines with their answers."""
     numbered = {}
     for station, pairs in enumerate(stations, 1):
@@ -114,7 +120,7 @@ def order_of(base, stations):
                 numbered[number] = station, line
     if sorted(numbered) != list(range(base.count + 1, base.count + len(numbered) + 1)):
         raise NoOrder(f'the numbers of {len(numbered)} commands have a gap')
-    return Order(base, [numbered[number] for number in sorted(numbered)])
+    return Order(base, [numbered[number] for number in sorted(numbered)], orders)
 
 
 # What a station was answered
@@ -158,17 +164,17 @@ def follows(order, station, pairs, after=0):
     return after
 
 
-def order_that_answers(base, stations):
+def order_that_answers(base, stations, orders=None):
     """The order over this register that gives all answers: of each station, in turn, its lines with these; NoOrder where there is none."""
-    order = order_of(base, stations)
+    order = order_of(base, stations, orders)
     for station, pairs in enumerate(stations, 1):
         follows(order, station, pairs)
     return order
 
 
-def judged(base, lines, out, names):
+def judged(base, lines, out, names, orders=None):
     """The order that a run had over this register, with its last register; NoOrder where there is none."""
-    return order_that_answers(base, [answered(one, said) for one, said in zip(lines, parts(out, names))])
+    return order_that_answers(base, [answered(one, said) for one, said in zip(lines, parts(out, names))], orders)
 
 
 def is_troubled(out):

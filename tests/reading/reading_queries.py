@@ -1,8 +1,9 @@
 """An independent reading of the queries, from docs/formats/lines.md alone: each answers the lines of its answer, of a register as
-reading.py has it and the words after its first. LISTS has the queries whose first line ends in the number of lines that follow it."""
+reading.py has it and the words after its first. LISTS has the queries whose first line ends in the number of lines that follow it.
+PLAIN has those that ask nothing of the register: they get the number of the station instead."""
 import collections
 
-from reading_words import identity, number, prefix, print_bits, print_identity
+from reading_words import identity, number, prefix, print_bits, print_identity, printable
 
 
 # Words of answers
@@ -110,6 +111,17 @@ def room(register, words):
     return [' '.join(['room', *parts, 'fullest', f'{print_identity(box[0])} {box[1]}/{register.most_items}' if box else 'none'])]
 
 
+# Of no register
+
+def mark(station, words):
+    return [f'mark {printable(words[0])}']
+
+
+def own_station(station, words):
+    return [f'station {station}']
+
+
+PLAIN = {(b'mark', 1): mark, (b'station', 0): own_station}
 QUERIES = {(b'where', 1): where, (b'look', 1): look, (b'groups', 1): groups, (b'members', 1): members, (b'mail', 1): mail, (b'count', 0): total,
            (b'rules', 0): rules, (b'radios', 0): radios, (b'radios', 1): radios, (b'items', 0): items, (b'due', 1): due, (b'last', 1): last,
            (b'room', 0): room}

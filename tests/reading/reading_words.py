@@ -1,8 +1,8 @@
 """An independent reading of the words of lines, from docs/formats/lines.md: numbers, identities, prefixes and bits, which are strings of
-0 and 1, read and printed."""
+0 and 1, read and printed; and the words of marks."""
 import re
 
-NUMBER = re.compile(rb'(?:0|[1-9][0-9]*)\Z')
+NUMBER, PRINTABLE = re.compile(rb'(?:0|[1-9][0-9]*)\Z'), re.compile(rb'[!-~]{1,32}\Z')
 
 
 class BadLine(Exception):
@@ -48,6 +48,13 @@ def bit_string(word):
     if '1' in bits[length:]:
         bad_value()
     return bits[:length]
+
+
+def printable(word):
+    """One of 1 to 32 printable characters, as text."""
+    if not PRINTABLE.match(word):
+        bad_value()
+    return word.decode()
 
 
 def print_identity(bits):

@@ -2,3 +2,4 @@ mod Adds
 mod Flags
 mod Found
 mod Paired
+mod Stations

@@ -1,9 +1,12 @@
 -- The requests of command lines, whose first word is the program's name.
-use Rattle.std.specs.Prelude.{◌≡◌, ◌⊎◌, ℕ, Bool, true, false, List, [], ◌∷◌, Option, Some, None, codes, if◌then◌else◌}
-use Rattle.std.specs.Prelude.{length, map, nat_le, option_and_then, option_map, unwrap_or, Vec}
+use Rattle.std.specs.Prelude.{◌≡◌, ◌⊎◌, ◌&&◌, ℕ, Bool, true, false, List, [], ◌∷◌, Option, Some, None, codes, if◌then◌else◌}
+use Rattle.std.specs.Prelude.{length, map, nat_le, nat_lt, option_and_then, option_map, unwrap_or, Vec}
 use Rattle.std.specs.Borrow.{Bor}
 use Rattle.std.specs.declared.alloc.Global.{Global}
+use Rattle.std.specs.Char.{digit_value}
+use Rattle.std.specs.List.{list_all}
 use Rattle.std.specs.Str.{bytes_eq}
+use Rattle.std.specs.Str.Parse.{digits_value, without_leading_plus}
 use Rattle.std.specs.declared.io.ErrorKind as io_kind
 use Rattle.std.specs.declared.io.ErrorKind.TheVariants as fault
 use Rattle.clap.specs.Words.{IsAmong, Kinds, Row, Text, all_of, fault_of, first_of, kind_of, subcommand_of}
@@ -16,12 +19,12 @@ use Rattle.command_line.specs.declared.request.Request.TheVariants as request
 use Rattle.command_line.specs.declared.request.Refusal.{Refusal}
 use Rattle.command_line.specs.declared.request.Refusal.TheVariants as refusal
 
--- a request, with the texts of its words
+-- a request, with the texts of its words; `run` and `serve` also have the stations that `--orders` names
 pub data Asked : Type 0 where
   memory : Asked
   format : Text → Text → Asked
-  run : Text → List Text → Asked
-  serve : Text → List (Text × Text) → Asked
+  run : Text → List Text → List ℕ → Asked
+  serve : Text → List (Text × Text) → List ℕ → Asked
   show : Text → List Text → Asked
   dump : Text → Asked
   load : Text → Text → Text → Asked
@@ -35,15 +38,15 @@ pair_texts pairs = map (λ (pair : Bor Text × Bor Text). (pair.0.now, pair.1.no
 abbrev pub asked_by : Request → Asked
 asked_by request.Memory = memory
 asked_by (request.Format settings disk) = format settings.now disk.now
-asked_by (request.Run disk files) = run disk.now (map (λ file. file.now) files.items)
-asked_by (request.Serve disk pairs) = serve disk.now (pair_texts pairs.items)
+asked_by (request.Run disk files orders) = run disk.now (map (λ file. file.now) files.items) orders.items
+asked_by (request.Serve disk pairs orders) = serve disk.now (pair_texts pairs.items) orders.items
 asked_by (request.Show disk words) = show disk.now (map (λ word. word.now) words.items)
 asked_by (request.Dump disk) = dump disk.now
 asked_by (request.Load file settings disk) = load file.now settings.now disk.now
 asked_by (request.Check disk) = check disk.now
 
 -- two parts of a request, where neither is missing
-abbrev pub both : {X Y : Type 0} → (Text → X → Y) → Option Text → Option X → Option Y
+abbrev pub both : {W X Y : Type 0} → (W → X → Y) → Option W → Option X → Option Y
 both made first second = option_and_then (λ a. option_map (made a) second) first
 
 -- the disk, and all the words under a name
@@ -66,9 +69,33 @@ two_texts found = (found.0.now, found.1.now)
 abbrev pub format_in : List Row → Option Asked
 format_in found = option_map (λ (named : Text × Text). format named.0 named.1) (settings_and_disk found)
 
--- the request of `run`: its disk and its files
+-- one decimal digit or more, and nothing else
+abbrev pub is_numeral : Text → Bool
+is_numeral text = nat_lt 0 (length text) && list_all (λ digit. nat_lt (digit_value digit) 10) text
+
+-- a number from 1 to 65,535
+abbrev pub is_station : ℕ → Bool
+is_station number = nat_lt 0 number && nat_lt number 65536
+
+-- the station that a word names, by its decimal number; a plus may come first
+abbrev pub station_in : Text → Option ℕ
+station_in text =
+    let digits = without_leading_plus text in
+    let number = digits_value 10 digits in
+    if is_numeral digits && is_station number then Some number else None
+
+-- the stations that words name, if each names one
+unfoldable pub stations_in : List Text → Option (List ℕ)
+stations_in [] = Some []
+stations_in (text ∷ rest) = both (λ station stations. station ∷ stations) (station_in text) (stations_in rest)
+
+-- the stations that `--orders` names; none without it
+abbrev pub orders_in : List Row → Option (List ℕ)
+orders_in found = stations_in (unwrap_or (all_of (codes "orders") found) [])
+
+-- the request of `run`: its disk, its files, and the stations that may give orders
 abbrev pub run_in : List Row → Option Asked
-run_in found = option_map (λ (named : Text × List Text). run named.0 named.1) (disk_and_words (codes "FILE") found)
+run_in found = both (λ (named : Text × List Text) orders. run named.0 named.1 orders) (disk_and_words (codes "FILE") found) (orders_in found)
 
 -- the words in pairs, if their number is even
 unfoldable pub paired : List Text → Option (List (Text × Text))
@@ -76,9 +103,13 @@ paired [] = Some []
 paired (input ∷ []) = None
 paired (input ∷ output ∷ rest) = option_map (λ pairs. (input, output) ∷ pairs) (paired rest)
 
--- the request of `serve`: its disk, and IN and OUT of each station
+-- the disk, and IN and OUT of each station
+abbrev pub disk_and_pairs : List Row → Option (Text × List (Text × Text))
+disk_and_pairs found = both (λ disk pairs. (disk, pairs)) (first_of (codes "DISK") found) (paired (unwrap_or (all_of (codes "END") found) []))
+
+-- the request of `serve`: its disk, IN and OUT of each station, and the stations that may give orders
 abbrev pub serve_in : List Row → Option Asked
-serve_in found = both serve (first_of (codes "DISK") found) (paired (unwrap_or (all_of (codes "END") found) []))
+serve_in found = both (λ (named : Text × List (Text × Text)) orders. serve named.0 named.1 orders) (disk_and_pairs found) (orders_in found)
 
 -- the request of `show`: its disk and its words
 abbrev pub show_in : List Row → Option Asked
@@ -148,7 +179,7 @@ abbrev pub ReportsOne : Kinds → Refusal → Type 0
 ReportsOne kinds reported = (reported ≡ refusal.NoMemory)
     ⊎ ((error : Error) × (reported ≡ refusal_by (kind_of error) error) × IsAmong (kind_of error) kinds)
 
--- clap accepts the words, but one is missing: the OUT of the last IN
+-- clap accepts the words, but one is missing: the OUT of the last IN. It accepts no other word of `--orders` than a station.
 abbrev pub LacksOne : List Text → Type 0
 LacksOne words = (faults words ≡ []) × (taken words ≡ None)
 

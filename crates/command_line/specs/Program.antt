@@ -1,11 +1,13 @@
 -- The definition of the command line for clap: seven subcommands, each with its words in order. How clap reads words
 -- by it is said by its own definitions, `subcommand_of` and `fault_of`.
-use Rattle.std.specs.Prelude.{◌≡◌, false, true, Some, codes}
+use Rattle.std.specs.Prelude.{◌≡◌, false, true, Some, codes, pos}
 use Rattle.clap.specs.Words.{App, Rule, Text, app_of, new_app, new_rule, with_rule, with_subcommand}
 use Rattle.clap.specs.Lexer.{usize_max}
 use Rattle.clap.specs.Simple.{on_top}
+use Rattle.clap.specs.declared.builder.action.ArgAction.TheVariants.{Append}
 use Rattle.clap.specs.declared.builder.command.Command.{Command}
 use Rattle.clap.specs.declared.builder.command.Command.TheViews.{out-Command as fields_of}
+use Rattle.clap.specs.declared.builder.value_parser.ValueParser.TheVariants as value
 
 -- one required word
 abbrev pub one_word : Text → Rule
@@ -32,17 +34,26 @@ with_two_words name first second = with_rule (with_rule (new_app name) first) se
 abbrev pub format : App
 format = with_two_words (codes "format") (one_word (codes "SETTINGS")) (one_word (codes "DISK"))
 
--- `run DISK FILE...`
+-- `--orders K`, any number of times: K is a number from 1 to 65,535
+abbrev pub orders : Rule
+orders = record (new_rule (codes "orders")) {
+  long = Some (codes "orders");
+  action = Some Append;
+  value_names = 1;
+  parser = Some (value.Signed (pos 1) (pos 65535));
+}
+
+-- `run [--orders K]... DISK FILE...`
 abbrev pub run : App
-run = with_two_words (codes "run") (one_word (codes "DISK")) (some_words (codes "FILE"))
+run = with_rule (with_two_words (codes "run") (one_word (codes "DISK")) (some_words (codes "FILE"))) orders
 
 -- the words of `serve` after DISK; help names them together
 abbrev pub ends : Rule
 ends = record (any_words (codes "END")) { value_names = 1 }
 
--- `serve DISK [IN OUT]...`
+-- `serve [--orders K]... DISK [IN OUT]...`
 abbrev pub serve : App
-serve = with_two_words (codes "serve") (one_word (codes "DISK")) ends
+serve = with_rule (with_two_words (codes "serve") (one_word (codes "DISK")) ends) orders
 
 -- `show DISK WORD...`
 abbrev pub show : App

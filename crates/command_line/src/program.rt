@@ -3,7 +3,7 @@ ghost use Rattle.std.specs.Prelude.{◌≡◌, IfOk, false};
 ghost use Rattle.clap.specs.Words.{new_app, rule_of};
 ghost use Rattle.command_line.specs.Program as spec;
 
-use clap::{Arg, Command};
+use clap::{Arg, ArgAction, Command, value_parser};
 use std::alloc::{AllocError, Global};
 
 /// The program's name in each usage line, whatever its file is called.
@@ -73,7 +73,11 @@ fn run<'a>(alloc: Global) -> Result<Command<'a>, AllocError>
         "FILE",
         "The lines of station 1, of station 2 and so on",
     );
-    named(alloc, "run", RUN, AFTER_RUN).arg(disk)?.arg(files)
+    named(alloc, "run", RUN, AFTER_RUN)
+        .override_usage(RUN_USAGE)
+        .arg(disk)?
+        .arg(files)?
+        .arg(orders(alloc))
 }
 
 fn serve<'a>(alloc: Global) -> Result<Command<'a>, AllocError>
@@ -84,7 +88,8 @@ fn serve<'a>(alloc: Global) -> Result<Command<'a>, AllocError>
     named(alloc, "serve", SERVE, AFTER_SERVE)
         .override_usage(SERVE_USAGE)
         .arg(disk)?
-        .arg(ends)
+        .arg(ends)?
+        .arg(orders(alloc))
 }
 
 fn show<'a>(alloc: Global) -> Result<Command<'a>, AllocError>
@@ -145,8 +150,24 @@ fn any_words<'a>(alloc: Global, name: &'a str, help: &'a str) -> Arg<'a>
     Arg::new(alloc, name).help(help).num_args(1..)
 }
 
+/// `--orders K`, any number of times: K is the number of a station.
+fn orders<'a>(alloc: Global) -> Arg<'a>
+    ensures rule { rule_of result ≡ spec.orders }
+    ensures local { result.global ≡ false }
+{
+    Arg::new(alloc, "orders")
+        .long("orders")
+        .action(ArgAction::Append)
+        .value_parser(value_parser!(u16).range(1..))
+        .value_name("K")
+        .help(ORDERS)
+}
+
+/// How `run` is called.
+const RUN_USAGE: &str = "tetra-switch run [--orders <K>]... <DISK> <FILE>...";
+
 /// How `serve` is called.
-pub(crate) const SERVE_USAGE: &str = "tetra-switch serve <DISK> [<IN> <OUT>]...";
+pub(crate) const SERVE_USAGE: &str = "tetra-switch serve [--orders <K>]... <DISK> [<IN> <OUT>]...";
 
 const VERSION: &str = "0.1.0 (disk layouts 1 and 2)";
 
@@ -162,10 +183,14 @@ const RUN: &str =
 
 const SERVE: &str =
     "Serves stations on a disk file: each answer is written as soon as its command is durable. The first IN and OUT are \
-     station 1's, the second station 2's, and so on. Without them station 1's lines come from standard input, and the \
-     answers go to standard output.";
+     station 1's, the second station 2's, and so on; - - in place of a pair leaves that station out. Without pairs \
+     station 1's lines come from standard input, and the answers go to standard output.";
 
-const SERVE_ENDS: &str = "The lines of a station, and its answers: a FIFO, a device or a file";
+const SERVE_ENDS: &str =
+    "The lines of a station, and its answers: a FIFO, a device or a file; or - - to leave the station out";
+
+const ORDERS: &str =
+    "Station K may give orders: rule, unrule, delete and expire. The others may not; without --orders each may";
 
 const SHOW: &str = "Answers one query of a disk file, and changes nothing.";
 
@@ -191,14 +216,15 @@ Exit status: 0 the disk file is made; 2 the command line is wrong; 3 the setting
 const AFTER_RUN: &str = "Example: tetra-switch run centre.disk station1.txt station2.txt
 
 Exit status: 0 each line was answered; 1 a line was bad, or an answer was an outage word; 2 the command line is \
-     wrong, a file is named twice, or there are more files than stations; 4 a file can't be read or written; 5 the \
-     disk file holds no register or the disk failed, or no memory.";
+     wrong, a file is named twice, there are more files than stations, or --orders names a station that is not served; \
+     4 a file can't be read or written; 5 the disk file holds no register or the disk failed, or no memory.";
 
 const AFTER_SERVE: &str = "Example: tetra-switch serve centre.disk station1.in station1.out
 
 Exit status: 0 each line was answered; 1 a line was bad, or an answer was an outage word; 2 the command line is \
-     wrong, an IN is named twice, or there are more pairs than stations; 4 a file can't be read or written; 5 the disk \
-     file holds no register or the disk failed, or no memory.";
+     wrong, an IN is named twice, only one of IN and OUT is -, there are more pairs than stations, or --orders names a \
+     station that is not served; 4 a file can't be read or written; 5 the disk file holds no register or the disk \
+     failed, or no memory.";
 
 const AFTER_SHOW: &str = "Example: tetra-switch show centre.disk where 234-14-2001
 

@@ -12,9 +12,9 @@ use std::alloc::{AllocError, Global};
 use std::convert::AsStr;
 
 /// The request of a command line, whose first word is the program's name. Without further words it is to serve
-/// standard input over a register in memory. Else clap reads the words: `format SETTINGS DISK`, `run DISK FILE...`,
-/// `serve DISK [IN OUT]...`, `show DISK WORD...`, `dump DISK`, `load DUMP SETTINGS DISK` or `check DISK`. A word after
-/// `--` is never read as a flag.
+/// standard input over a register in memory. Else clap reads the words: `format SETTINGS DISK`,
+/// `run [--orders K]... DISK FILE...`, `serve [--orders K]... DISK [IN OUT]...`, `show DISK WORD...`, `dump DISK`,
+/// `load DUMP SETTINGS DISK` or `check DISK`. A word after `--` is never read as a flag.
 ///
 /// # Errors
 /// `Help` for `--help` or `-h`, also of a subcommand; `Version` for `--version` or `-V`. `Wrong` or `Missing` for every
@@ -117,8 +117,15 @@ fn format_of<'a>(found: &ArgMatches<'a>) -> Option<Request<'a>>
 fn run_of<'a>(alloc: Global, found: &ArgMatches<'a>) -> Result<Option<Request<'a>>, AllocError>
     ensures { IfOk result (λ request. option_map spec.asked_by request ≡ spec.run_in (rows_of (found_of found.now))) }
 {
+    let Some(orders) = orders_of(alloc, found)? else {
+        return Ok(None);
+    };
     match disk_and_words(alloc, found, "FILE")? {
-        Some((disk, files)) => Ok(Some(Request::Run { disk, files })),
+        Some((disk, files)) => Ok(Some(Request::Run {
+            disk,
+            files,
+            orders,
+        })),
         None => Ok(None),
     }
 }
@@ -126,12 +133,50 @@ fn run_of<'a>(alloc: Global, found: &ArgMatches<'a>) -> Result<Option<Request<'a
 fn serve_of<'a>(alloc: Global, found: &ArgMatches<'a>) -> Result<Option<Request<'a>>, AllocError>
     ensures { IfOk result (λ request. option_map spec.asked_by request ≡ spec.serve_in (rows_of (found_of found.now))) }
 {
+    let Some(orders) = orders_of(alloc, found)? else {
+        return Ok(None);
+    };
     let Some(disk) = word(found, "DISK") else {
         return Ok(None);
     };
     match paired(alloc, all_words(found, "END").unwrap_or(&[]))? {
-        Some(pairs) => Ok(Some(Request::Serve { disk, pairs })),
+        Some(pairs) => Ok(Some(Request::Serve {
+            disk,
+            pairs,
+            orders,
+        })),
         None => Ok(None),
+    }
+}
+
+/// The stations that `--orders` names. `None` if a word of it is none, which clap refuses.
+fn orders_of<'a>(alloc: Global, found: &ArgMatches<'a>) -> Result<Option<Vec<u16>>, AllocError>
+    ensures { IfOk result (λ orders. option_map (λ o. o.items) orders ≡ spec.orders_in (rows_of (found_of found.now))) }
+{
+    stations_of(alloc, all_words(found, "orders").unwrap_or(&[]))
+}
+
+/// The stations that words name; `None` if one is none.
+fn stations_of(alloc: Global, words: &[&str]) -> Result<Option<Vec<u16>>, AllocError>
+    ensures { IfOk result (λ stations. option_map (λ s. s.items) stations ≡ spec.stations_in (map (λ word. word.now) words.now)) }
+{
+    let mut stations = Vec::new(alloc);
+    for index in 0..words.len() {
+        let Some(station) = station_of(words[index]) else {
+            return Ok(None);
+        };
+        stations.push(station)?;
+    }
+    Ok(Some(stations))
+}
+
+/// The station that a word names; `None` if it is no number from 1 to 65,535.
+fn station_of(word: &str) -> Option<u16>
+    ensures { result ≡ spec.station_in word.now }
+{
+    match word.parse::<u16>() {
+        Ok(number) if number > 0 => Some(number),
+        _ => None,
     }
 }
 

@@ -23,19 +23,23 @@ pub enum Request<'a> {
         /// The disk file that is made.
         disk: &'a str,
     },
-    /// `run DISK FILE...`: serve the files of stations on a disk file.
+    /// `run [--orders K]... DISK FILE...`: serve the files of stations on a disk file.
     Run {
         /// The disk file.
         disk: &'a str,
         /// The files in the order of their stations, one at least.
         files: Vec<&'a str>,
+        /// The stations that may give orders. If it names none, each may.
+        orders: Vec<u16>,
     },
-    /// `serve DISK [IN OUT]...`: serve stations on a disk file, and write each answer as it comes.
+    /// `serve [--orders K]... DISK [IN OUT]...`: serve stations on a disk file, and write each answer as it comes.
     Serve {
         /// The disk file.
         disk: &'a str,
         /// IN and OUT of station 1, of station 2 and so on. No pair means standard input and standard output.
         pairs: Vec<(&'a str, &'a str)>,
+        /// The stations that may give orders. If it names none, each may.
+        orders: Vec<u16>,
     },
     /// `show DISK WORD...`: answer one query of a disk file.
     Show {
@@ -74,7 +78,8 @@ pub enum Refusal {
     Version(Error),
     /// The command line is wrong.
     Wrong(Error),
-    /// The OUT of the last IN is missing. clap accepts such a command line; it reports any other missing word itself.
+    /// The OUT of the last IN is missing. clap accepts such a command line; it reports any other missing word itself, and each word
+    /// of `--orders` that is no station.
     Missing,
     /// A word of the command line is no UTF-8.
     NoText,

@@ -25,6 +25,20 @@ serve d - - = serve d - -
 serve -- d -a -b = serve d -a -b
 serve d a b -- -c -d = serve d a b -c -d
 serve d  b = serve d  b
+serve d - - a b = serve d - - a b
+serve --orders 3 d = serve d orders 3
+serve d --orders 3 = serve d orders 3
+serve --orders=3 d a b = serve d a b orders 3
+serve --orders 3 --orders 1 d a b = serve d a b orders 3 1
+serve --orders 3 d a b --orders 3 = serve d a b orders 3 3
+serve d a --orders 3 b = serve d a b orders 3
+serve --orders 1 -- d a b = serve d a b orders 1
+serve d -- --orders 3 = serve d --orders 3
+serve --orders 65535 d = serve d orders 65535
+serve --orders 007 d = serve d orders 7
+serve --orders +7 d = serve d orders 7
+run --orders 2 d a = run d a orders 2
+run d a b --orders 2 --orders 1 = run d a b orders 2 1
 show centre.disk count = show centre.disk count
 show centre.disk where 234-14-2001 = show centre.disk where 234-14-2001
 show d 1 0 rule 234-14-0/24 1 99 1 3600 = show d 1 0 rule 234-14-0/24 1 99 1 3600
@@ -100,6 +114,22 @@ run d = wrong
 run d -- = wrong
 run d -1 = wrong
 run d a --turns 3 = wrong
+run --orders 2 d = wrong
+run --orders d a = wrong
+run d a --orders = wrong
+serve --orders 0 d = wrong
+serve --orders -1 d = wrong
+serve --orders=-1 d = wrong
+serve --orders 65536 d = wrong
+serve --orders 1,2 d = wrong
+serve --orders 1x d = wrong
+serve --orders= d = wrong
+serve --orders  d = wrong
+serve --order 1 d = wrong
+serve --orders 1 = wrong
+show --orders 1 d count = wrong
+--orders 1 serve d = wrong
+serve --orders 1 d a = missing
 serve -x = wrong
 serve d -x = wrong
 serve d a b -x = wrong
@@ -158,6 +188,31 @@ fn push_words(text: &mut String, words: &[&str]) -> Result<(), AllocError> {
     Ok(())
 }
 
+/// Appends the stations that may give orders, if any are named.
+fn push_orders(text: &mut String, orders: &[u16]) -> Result<(), AllocError> {
+    if orders.is_empty() {
+        return Ok(());
+    }
+    text.push_str(" orders")?;
+    for station in orders {
+        text.push_str(" ")?;
+        push_number(text, *station)?;
+    }
+    Ok(())
+}
+
+/// Appends a number in decimal, without zeros before it.
+fn push_number(text: &mut String, number: u16) -> Result<(), AllocError> {
+    let mut has_begun = false;
+    for place in [10_000, 1_000, 100, 10, 1] {
+        if has_begun || number >= place {
+            text.push(char::from(b'0' + (number / place % 10) as u8))?;
+            has_begun = true;
+        }
+    }
+    Ok(())
+}
+
 /// A request, as its words.
 fn request_text(alloc: Global, request: &Request<'_>) -> Result<String, AllocError> {
     let mut text = String::new(alloc);
@@ -167,15 +222,25 @@ fn request_text(alloc: Global, request: &Request<'_>) -> Result<String, AllocErr
             text.push_str("format")?;
             push_words(&mut text, &[*settings, *disk])?;
         }
-        Request::Run { disk, files } => {
+        Request::Run {
+            disk,
+            files,
+            orders,
+        } => {
             text.push_str("run")?;
             push_words(&mut text, &[*disk])?;
             push_words(&mut text, files.as_slice())?;
+            push_orders(&mut text, orders.as_slice())?;
         }
-        Request::Serve { disk, pairs } => {
+        Request::Serve {
+            disk,
+            pairs,
+            orders,
+        } => {
             text.push_str("serve")?;
             push_words(&mut text, &[*disk])?;
             push_pairs(&mut text, pairs.as_slice())?;
+            push_orders(&mut text, orders.as_slice())?;
         }
         Request::Show { disk, words } => {
             text.push_str("show")?;

@@ -58,12 +58,14 @@ fn help_of_each_subcommand(rt: HostRuntime) -> Result<(), Fail> {
         "Exit status:",
     ];
     let run = [
-        "Usage: tetra-switch run <DISK> <FILE>...\n",
+        "Usage: tetra-switch run [--orders <K>]... <DISK> <FILE>...\n",
+        "--orders <K>",
         "Example: tetra-switch run ",
         "Exit status:",
     ];
     let serve = [
-        "Usage: tetra-switch serve <DISK> [<IN> <OUT>]...\n",
+        "Usage: tetra-switch serve [--orders <K>]... <DISK> [<IN> <OUT>]...\n",
+        "--orders <K>",
         "Example: tetra-switch serve ",
         "Exit status:",
     ];
@@ -105,7 +107,7 @@ fn help_of_dump_load_and_check(rt: HostRuntime) -> Result<(), Fail> {
 
 #[test]
 fn usage_names_the_program(rt: HostRuntime) -> Result<(), Fail> {
-    let run = ["\n\nUsage: tetra-switch run <DISK> <FILE>...\n\n"];
+    let run = ["\n\nUsage: tetra-switch run [--orders <K>]... <DISK> <FILE>...\n\n"];
     assert!(rt; text_contains(rt.alloc(), &["/a/tetra_switch.old", "run", "d"], &run)?);
     Ok(())
 }
@@ -114,7 +116,16 @@ fn usage_names_the_program(rt: HostRuntime) -> Result<(), Fail> {
 fn last_in_without_out(rt: HostRuntime) -> Result<(), Fail> {
     let text = text_of(rt.alloc(), &["t", "serve", "d", "1.in", "1.out", "2.in"])?;
     let wanted =
-        "error: the last IN has no OUT\n\nUsage: tetra-switch serve <DISK> [<IN> <OUT>]...\n\nFor more information, try '--help'.\n";
+        "error: the last IN has no OUT\n\nUsage: tetra-switch serve [--orders <K>]... <DISK> [<IN> <OUT>]...\n\nFor more information, try '--help'.\n";
+    assert!(rt; text.as_str() == wanted);
+    Ok(())
+}
+
+#[test]
+fn orders_of_no_station(rt: HostRuntime) -> Result<(), Fail> {
+    let text = text_of(rt.alloc(), &["t", "serve", "--orders", "0", "d"])?;
+    let wanted =
+        "error: invalid value '0' for '--orders <K>': 0 is not in 1..=65535\n\nFor more information, try '--help'.\n";
     assert!(rt; text.as_str() == wanted);
     Ok(())
 }

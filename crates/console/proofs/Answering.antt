@@ -3,7 +3,7 @@ use Rattle.std.proofs.Common.{◌≡◌, ◌⊎◌, ℕ, ◌+◌, ◌<◌, ◌�
 use Rattle.std.proofs.lemmas.Bool.{true≢false}
 use Rattle.centre_core.specs.declared.query.QueryAnswer.{QueryAnswer}
 use Rattle.console.specs.declared.line.Line.{Line}
-use Rattle.console.specs.declared.line.Line.TheVariants.{Silent, Bad, Apply, Ask, Print}
+use Rattle.console.specs.declared.line.Line.TheVariants.{Silent, Bad, Apply, Ask, Print, Mark, OwnStation, Forbidden}
 use Rattle.console.specs.declared.answer.Answer.{Answer}
 use Rattle.console.specs.declared.answer.Answer.TheVariants as answer
 use Rattle.console.specs.declared.running.RunFault.{RunFault}
@@ -15,7 +15,7 @@ use Rattle.desk.specs.declared.outage.Outage.{Outage}
 use Rattle.desk.specs.declared.outage.Outage.TheVariants.{Memory}
 use Rattle.desk.specs.Listed.{IsUnlisted}
 use Rattle.console.specs.Answer.{is_list, is_list_answer, IsOneLine, IsLine}
-use Rattle.console.specs.Reading.{reading}
+use Rattle.console.specs.Reading.{Speaker, heard}
 use Rattle.console.specs.Inside.Current.{IsGivenFor}
 use Rattle.console.specs.Inside.Given.{IsPrintable}
 use Rattle.desk.specs.Rules.{Rules}
@@ -29,6 +29,9 @@ line_or_list false t is long = absurd (long is)
 -- an answer that can be printed and is no line is a list
 pub only_lists_are_long : {B : Type 0} (a : Answer B) → IsPrintable a → (IsLine a → ⊥) → is_list_answer a ≡ true
 only_lists_are_long answer.Quiet short long = absurd (long tt)
+only_lists_are_long (answer.Marked word) short long = absurd (long tt)
+only_lists_are_long (answer.OwnStation own) short long = absurd (long tt)
+only_lists_are_long (answer.Forbidden order) short long = absurd (long tt)
 only_lists_are_long (answer.Bad line fault) short long = absurd (long tt)
 only_lists_are_long (answer.Replied sequence reply) short long = absurd (long short)
 only_lists_are_long (answer.CommandOutage sequence word) short long = absurd (long tt)
@@ -40,9 +43,15 @@ module _ {A W : Type 0} where
   query_outage : (rules : Rules A W) (n : ℕ) (s t : W) (line : Line A) (a : Answer A) → is_list_answer a ≡ true → AnswersReading rules n s line a t → AnswersReading rules n s line (answer.QueryOutage n Memory) t
   query_outage rules n s t Silent a list given = absurd (true≢false (sym list ∙ ap is_list_answer given.0))
   query_outage rules n s t (Bad fault) a list given = absurd (true≢false (sym list ∙ ap is_list_answer given.0))
+  query_outage rules n s t (Mark word) a list given = absurd (true≢false (sym list ∙ ap is_list_answer given.0))
+  query_outage rules n s t (OwnStation own) a list given = absurd (true≢false (sym list ∙ ap is_list_answer given.0))
+  query_outage rules n s t (Forbidden order) a list given = absurd (true≢false (sym list ∙ ap is_list_answer given.0))
   query_outage rules n s t (Apply c) (answer.Replied sequence reply) list given = absurd (true≢false (sym list))
   query_outage rules n s t (Apply c) (answer.CommandOutage sequence word) list given = absurd (true≢false (sym list))
   query_outage rules n s t (Apply c) answer.Quiet list given = absurd given
+  query_outage rules n s t (Apply c) (answer.Marked word) list given = absurd given
+  query_outage rules n s t (Apply c) (answer.OwnStation own) list given = absurd given
+  query_outage rules n s t (Apply c) (answer.Forbidden order) list given = absurd given
   query_outage rules n s t (Apply c) (answer.Bad number fault) list given = absurd given
   query_outage rules n s t (Apply c) (answer.Queried query_answer) list given = absurd given
   query_outage rules n s t (Apply c) (answer.Listed lines) list given = absurd given
@@ -50,6 +59,9 @@ module _ {A W : Type 0} where
   query_outage rules n s t (Ask q) (answer.Queried query_answer) list given = (refl, inr (refl, (query_answer, list, given)))
   query_outage rules n s t (Ask q) (answer.QueryOutage number word) list given = absurd (true≢false (sym list))
   query_outage rules n s t (Ask q) answer.Quiet list given = absurd given
+  query_outage rules n s t (Ask q) (answer.Marked word) list given = absurd given
+  query_outage rules n s t (Ask q) (answer.OwnStation own) list given = absurd given
+  query_outage rules n s t (Ask q) (answer.Forbidden order) list given = absurd given
   query_outage rules n s t (Ask q) (answer.Bad number fault) list given = absurd given
   query_outage rules n s t (Ask q) (answer.Replied sequence reply) list given = absurd given
   query_outage rules n s t (Ask q) (answer.CommandOutage sequence word) list given = absurd given
@@ -57,16 +69,19 @@ module _ {A W : Type 0} where
   query_outage rules n s t (Print l) (answer.Listed lines) list given = absurd (true≢false (sym list))
   query_outage rules n s t (Print l) (answer.QueryOutage number word) list given = absurd (true≢false (sym list))
   query_outage rules n s t (Print l) answer.Quiet list given = absurd given
+  query_outage rules n s t (Print l) (answer.Marked word) list given = absurd given
+  query_outage rules n s t (Print l) (answer.OwnStation own) list given = absurd given
+  query_outage rules n s t (Print l) (answer.Forbidden order) list given = absurd given
   query_outage rules n s t (Print l) (answer.Bad number fault) list given = absurd given
   query_outage rules n s t (Print l) (answer.Replied sequence reply) list given = absurd given
   query_outage rules n s t (Print l) (answer.CommandOutage sequence word) list given = absurd given
   query_outage rules n s t (Print l) (answer.Queried query_answer) list given = absurd given
 
   -- what is given in place of an answer is an answer
-  pub is_given_for : (rules : Rules A W) (station n : ℕ) (s t : W) (line : List ℕ) (a given : Answer A) → IsGivenFor n a given → Answers rules station n s line a t → Answers rules station n s line given t
-  is_given_for rules station n s t line a given stands answers = elim stands [
-    | inl same ↦ subst (λ (b : Answer A). Answers rules station n s line b t) (sym same) answers
-    | inr list ↦ subst (λ (b : Answer A). Answers rules station n s line b t) (sym list.1) (query_outage rules n s t (reading station line) a list.0 answers)
+  pub is_given_for : (rules : Rules A W) (speaker : Speaker) (n : ℕ) (s t : W) (line : List ℕ) (a given : Answer A) → IsGivenFor n a given → Answers rules speaker n s line a t → Answers rules speaker n s line given t
+  is_given_for rules speaker n s t line a given stands answers = elim stands [
+    | inl same ↦ subst (λ (b : Answer A). Answers rules speaker n s line b t) (sym same) answers
+    | inr list ↦ subst (λ (b : Answer A). Answers rules speaker n s line b t) (sym list.1) (query_outage rules n s t (heard speaker line) a list.0 answers)
   ]
 
 -- what has room for one line, and not for this listing, has no room for a list

@@ -47,3 +47,8 @@ known_fits itsi radio small station area =
     let whole : length (codes "where " ++ identity_text itsi ++ codes " " ++ radio_words radio ++ codes "\n")
     ≡ 6 + length (identity_text itsi) + 1 + (8 + length (decimal radio.station) + 4 + length (decimal radio.area) + length (presence_text radio.present)) + 1 = grind (arith, length-append) in
     omega (arith, most, first, second, word, whole)
+
+pub mark_fits : (word : List ℕ) → length word ≤ 32 → length (codes "mark " ++ word ++ codes "\n") ≤ answer_room
+mark_fits word short =
+    let whole : length (codes "mark " ++ word ++ codes "\n") ≡ 5 + length word + 1 = grind (arith, length-append) in
+    omega (arith, whole, short)

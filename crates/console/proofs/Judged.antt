@@ -20,11 +20,13 @@ use Rattle.console.specs.declared.body.Head.{Head}
 use Rattle.console.specs.declared.line.LineFault.{LineFault}
 use Rattle.console.specs.declared.line.LineFault.TheVariants.{Syntax, Value, TooLong}
 use Rattle.console.specs.declared.line.Line.{Line}
-use Rattle.console.specs.declared.line.Line.TheVariants.{Silent, Bad, Apply, Ask, Print}
-use Rattle.console.specs.Reading.{words, of_words, is_silent, longest_line, reading, head_in, area_in, rule_in, key_in, rule_body, mm_body, sds_body, group_sds_body, body_in, command_line, saying, query_in, ask, prefix_in, seconds_in, station_in, radios_under, due_at, listing_or, print, of_word, of_two}
+use Rattle.console.specs.declared.line.Line.TheVariants.{Silent, Bad, Apply, Ask, Print, Mark, OwnStation, Forbidden}
+use Rattle.console.specs.Reading.{words, of_words, is_silent, longest_line, reading, head_in, area_in, rule_in, key_in, rule_body, mm_body, sds_body, group_sds_body, body_in, command_line, saying, query_in, ask, prefix_in, seconds_in, station_in, radios_under, due_at, listing_or, print, marked, of_word, of_two}
+use Rattle.console.specs.Mark.{mark_in}
 use Rattle.console.specs.Spelling.{has_form, is_one_of, SpellsSome, BadLines}
 use Rattle.console.proofs.Spelled.{only_commands, only_queries, only_listings}
 use Rattle.console.proofs.Taken.{all_commands, all_queries, all_listings}
+use Rattle.console.proofs.OwnLines.{only_marks, only_own, all_marks, all_own}
 
 -- what the words of a form give: a value, or that one of them is out of form or range
 abbrev IsFormed : {T : Type 0} → Result T LineFault → Type 0
@@ -137,8 +139,11 @@ module _ (A : Type 0) where
   kind_of (Apply c) = 4
   kind_of (Ask q) = 5
   kind_of (Print l) = 6
+  kind_of (Mark word) = 7
+  kind_of (OwnStation own) = 8
+  kind_of (Forbidden order) = 0
 
-  -- words of a form are a command, a query, a listing, or a bad value
+  -- words of a form are a command, a query, a listing, a mark, the question which station this is, or a bad value
   abbrev IsValued : Line A → Type 0
   IsValued l = 3 ≤ kind_of l
 
@@ -153,6 +158,10 @@ module _ (A : Type 0) where
   valued_print (Err Value) good = omega arith
   valued_print (Err Syntax) good = absurd good
   valued_print (Err TooLong) good = absurd good
+
+  valued_mark : (o : Option (List ℕ)) → IsValued (marked o)
+  valued_mark None = omega arith
+  valued_mark (Some word) = omega arith
 
   valued_command : (station : ℕ) (head : Option Head) (r : Result (Body A) LineFault) → IsFormed r → IsValued (command_line station head r)
   valued_command station None (Ok b) good = omega arith
@@ -170,21 +179,23 @@ module _ (A : Type 0) where
   unformed_if true c x y rest e = absurd (true≢false e)
   unformed_if false c x y rest e = rest e
 
-  word_valued : (name : List ℕ) → has_form (name ∷ []) ≡ true → IsValued (of_word name)
-  word_valued name e =
+  word_valued : (station : ℕ) (name : List ℕ) → has_form (name ∷ []) ≡ true → IsValued (of_word station name)
+  word_valued station name e =
       valued_if (bytes_eq name (codes "count")) _ (Ask Total) _ (omega arith)
       (valued_if (bytes_eq name (codes "rules")) _ (Print (Entries Rules)) _ (omega arith)
       (valued_if (bytes_eq name (codes "radios")) _ (Print (Entries (Radios None))) _ (omega arith)
       (valued_if (bytes_eq name (codes "items")) _ (Print (Entries Items)) _ (omega arith)
-      (valued_if (bytes_eq name (codes "room")) false (Print Room) (Bad Syntax) (omega arith) (λ f. absurd (false≢true f)))))) e
+      (valued_if (bytes_eq name (codes "room")) _ (Print Room) _ (omega arith)
+      (valued_if (bytes_eq name (codes "station")) false (OwnStation station) (Bad Syntax) (omega arith) (λ f. absurd (false≢true f))))))) e
 
-  word_formless : (name : List ℕ) → has_form (name ∷ []) ≡ false → of_word {A = A} name ≡ Bad Syntax
-  word_formless name e =
+  word_formless : (station : ℕ) (name : List ℕ) → has_form (name ∷ []) ≡ false → of_word {A = A} station name ≡ Bad Syntax
+  word_formless station name e =
       unformed_if (bytes_eq name (codes "count")) _ (Ask Total) _
       (unformed_if (bytes_eq name (codes "rules")) _ (Print (Entries Rules)) _
       (unformed_if (bytes_eq name (codes "radios")) _ (Print (Entries (Radios None))) _
       (unformed_if (bytes_eq name (codes "items")) _ (Print (Entries Items)) _
-      (unformed_if (bytes_eq name (codes "room")) false (Print Room) (Bad Syntax) (λ f. refl))))) e
+      (unformed_if (bytes_eq name (codes "room")) _ (Print Room) _
+      (unformed_if (bytes_eq name (codes "station")) false (OwnStation station) (Bad Syntax) (λ f. refl)))))) e
 
   -- a listing under its name, or one of the rest
   listing_valued : (b c : Bool) (x : Result Listing LineFault) (rest : Option (Result Listing LineFault)) (r : Result Query LineFault) →
@@ -200,28 +211,30 @@ module _ (A : Type 0) where
   two_valued : (name word : List ℕ) → has_form (name ∷ word ∷ []) ≡ true → IsValued (of_two name word)
   two_valued name word e =
       let query = query_in name word in
-      listing_valued (bytes_eq name (codes "radios")) _ (saying radios_under (prefix_in word)) _ query (formed_saying radios_under (prefix_in word))
+      valued_if (bytes_eq name (codes "mark")) _ (marked (mark_in word)) _ (valued_mark (mark_in word))
+      (listing_valued (bytes_eq name (codes "radios")) _ (saying radios_under (prefix_in word)) _ query (formed_saying radios_under (prefix_in word))
       (listing_valued (bytes_eq name (codes "due")) _ (saying due_at (seconds_in word)) _ query (formed_saying due_at (seconds_in word))
       (listing_valued (bytes_eq name (codes "last")) (is_one_of query_names name) (saying Last (station_in word)) None query (formed_saying Last (station_in word))
-      (λ f. valued_ask query (query_formed name word f)))) e
+      (λ f. valued_ask query (query_formed name word f))))) e
 
   two_formless : (name word : List ℕ) → has_form (name ∷ word ∷ []) ≡ false → of_two {A = A} name word ≡ Bad Syntax
   two_formless name word e =
       let query = query_in name word in
-      listing_formless (bytes_eq name (codes "radios")) _ (saying radios_under (prefix_in word)) _ query
+      unformed_if (bytes_eq name (codes "mark")) _ (marked (mark_in word)) _
+      (listing_formless (bytes_eq name (codes "radios")) _ (saying radios_under (prefix_in word)) _ query
       (listing_formless (bytes_eq name (codes "due")) _ (saying due_at (seconds_in word)) _ query
       (listing_formless (bytes_eq name (codes "last")) (is_one_of query_names name) (saying Last (station_in word)) None query
-      (λ f. ap (λ r. ask {A = A} r) (query_formless name word f)))) e
+      (λ f. ap (λ r. ask {A = A} r) (query_formless name word f))))) e
 
   valued : (station : ℕ) (ws : List (List ℕ)) → has_form ws ≡ true → IsValued (of_words station ws)
   valued station [] e = absurd (false≢true e)
-  valued station (name ∷ []) e = word_valued name e
+  valued station (name ∷ []) e = word_valued station name e
   valued station (name ∷ word ∷ []) e = two_valued name word e
   valued station (s ∷ m ∷ name ∷ more) e = valued_command station (head_in s m) (body_in name more) (body_formed s m name more e)
 
   formless : (station : ℕ) (ws : List (List ℕ)) → has_form ws ≡ false → of_words {A = A} station ws ≡ Bad Syntax
   formless station [] e = refl
-  formless station (name ∷ []) e = word_formless name e
+  formless station (name ∷ []) e = word_formless station name e
   formless station (name ∷ word ∷ []) e = two_formless name word e
   formless station (s ∷ m ∷ name ∷ more) e = ap (λ r. command_line station (head_in s m) r) (body_formless s m name more e)
 
@@ -267,16 +280,20 @@ module _ (A : Type 0) where
   judged_of : (long silent : Bool) (l : Line A) → long ≡ false → silent ≡ false → judging long silent l ≡ l
   judged_of long silent l short speaks = rw (short, speaks) refl
 
-  value_left : (l : Line A) → IsValued l → ((c : Command A) → l ≡ Apply c → ⊥) → ((q : Query) → l ≡ Ask q → ⊥) → ((k : Listing) → l ≡ Print k → ⊥) → l ≡ Bad Value
-  value_left Silent good no_command no_ask no_print = absurd (omega (arith, good))
-  value_left (Bad TooLong) good no_command no_ask no_print = absurd (omega (arith, good))
-  value_left (Bad Syntax) good no_command no_ask no_print = absurd (omega (arith, good))
-  value_left (Bad Value) good no_command no_ask no_print = refl
-  value_left (Apply c) good no_command no_ask no_print = absurd (no_command c refl)
-  value_left (Ask q) good no_command no_ask no_print = absurd (no_ask q refl)
-  value_left (Print k) good no_command no_ask no_print = absurd (no_print k refl)
+  value_left : (l : Line A) → IsValued l → ((c : Command A) → l ≡ Apply c → ⊥) → ((q : Query) → l ≡ Ask q → ⊥) → ((k : Listing) → l ≡ Print k → ⊥) →
+      ((w : List ℕ) → l ≡ Mark w → ⊥) → ((n : ℕ) → l ≡ OwnStation n → ⊥) → l ≡ Bad Value
+  value_left Silent good no_command no_ask no_print no_mark no_own = absurd (omega (arith, good))
+  value_left (Bad TooLong) good no_command no_ask no_print no_mark no_own = absurd (omega (arith, good))
+  value_left (Bad Syntax) good no_command no_ask no_print no_mark no_own = absurd (omega (arith, good))
+  value_left (Bad Value) good no_command no_ask no_print no_mark no_own = refl
+  value_left (Apply c) good no_command no_ask no_print no_mark no_own = absurd (no_command c refl)
+  value_left (Ask q) good no_command no_ask no_print no_mark no_own = absurd (no_ask q refl)
+  value_left (Print k) good no_command no_ask no_print no_mark no_own = absurd (no_print k refl)
+  value_left (Mark w) good no_command no_ask no_print no_mark no_own = absurd (no_mark w refl)
+  value_left (OwnStation n) good no_command no_ask no_print no_mark no_own = absurd (no_own n refl)
+  value_left (Forbidden order) good no_command no_ask no_print no_mark no_own = absurd (omega (arith, good))
 
-  -- what spells a command, a query or a listing is no bad line
+  -- what spells a command, a query, a listing or a mark, or asks which station this is, is no bad line
   spelt_is_taken : (station : ℕ) (line : List ℕ) → length line ≤ longest_line → SpellsSome A station line → reading {A = A} station line ≡ Bad Value → ⊥
   spelt_is_taken station line short spelt e = elim spelt [
     | inl command ↦ (let c = command.0 in let taken = subst (λ (n : ℕ). reading {A = A} n line ≡ Apply c) command.1 (all_commands line c command.2 command.3 short) in
@@ -285,9 +302,18 @@ module _ (A : Type 0) where
       | inl query ↦ (let q = query.0 in let same = query.2 in
           let taken = subst (λ (text : List ℕ). reading {A = A} station text ≡ Ask q) (sym same) (all_queries {A = A} station q query.1 (subst (λ (text : List ℕ). length text ≤ longest_line) same short)) in
           omega (arith, same_kind (Ask q) (Bad Value) (sym taken ∙ e)))
-      | inr listing ↦ (let l = listing.0 in
-          let taken = subst (λ (text : List ℕ). reading {A = A} station text ≡ Print l) (sym listing.2) (all_listings {A = A} station l listing.1) in
-          omega (arith, same_kind (Print l) (Bad Value) (sym taken ∙ e)))
+      | inr further ↦ elim further [
+        | inl listing ↦ (let l = listing.0 in
+            let taken = subst (λ (text : List ℕ). reading {A = A} station text ≡ Print l) (sym listing.2) (all_listings {A = A} station l listing.1) in
+            omega (arith, same_kind (Print l) (Bad Value) (sym taken ∙ e)))
+        | inr own ↦ elim own [
+          | inl mark ↦ (let w = mark.0 in
+              let taken = subst (λ (text : List ℕ). reading {A = A} station text ≡ Mark w) (sym mark.2) (all_marks A station w mark.1) in
+              omega (arith, same_kind (Mark w) (Bad Value) (sym taken ∙ e)))
+          | inr same ↦ (let taken = subst (λ (text : List ℕ). reading {A = A} station text ≡ OwnStation station) (sym same) (all_own A station) in
+              omega (arith, same_kind (OwnStation station) (Bad Value) (sym taken ∙ e)))
+        ]
+      ]
     ]
   ]
 
@@ -305,6 +331,8 @@ module _ (A : Type 0) where
           λ f. (let all = judged_of long silent l (is_short (length line) f.0.0) f.0.1 in all ∙ value_left l (some f.1)
               (λ c e. (let only = only_commands station line c (all ∙ e) in f.2 (inl (c, only.of_station, only.in_range, only.spelt))))
               (λ q e. (let only = only_queries station line q (all ∙ e) in f.2 (inr (inl (q, only.in_range, only.spelt)))))
-              (λ k e. (let only = only_listings station line k (all ∙ e) in f.2 (inr (inr (k, only.in_range, only.spelt)))))),
+              (λ k e. (let only = only_listings station line k (all ∙ e) in f.2 (inr (inr (inl (k, only.in_range, only.spelt))))))
+              (λ w e. (let only = only_marks A station line w (all ∙ e) in f.2 (inr (inr (inr (inl (w, only.in_range, only.spelt)))))))
+              (λ n e. f.2 (inr (inr (inr (inr (only_own A station n line (all ∙ e)).1)))))),
         );
       }

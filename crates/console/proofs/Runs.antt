@@ -1,14 +1,17 @@
 -- A run over a reader and a writer that are answered otherwise.
-use Rattle.std.proofs.Common.{◌≡◌, ℕ, List, Option, Result, subst}
+use Rattle.std.proofs.Common.{◌≡◌, ℕ, List, ◌++◌, Option, Result, subst}
 use Rattle.console.specs.declared.running.Ran.{Ran}
 use Rattle.console.specs.declared.running.RunFault.{RunFault}
 use Rattle.desk.specs.Rules.{Rules}
+use Rattle.console.specs.Events.{Event}
 use Rattle.console.specs.Runs.{IsRun}
+use Rattle.console.specs.Told.{IsTold}
+use Rattle.console.specs.Reading.{Speaker}
 
-module _ (A : Type 0) {W : Type 0} (rules : Rules A W) (station : ℕ) (s t : W) (r : Result Ran RunFault) where
+module _ (A : Type 0) {W : Type 0} (rules : Rules A W) (speaker : Speaker) (s t : W) (r : Result Ran RunFault) where
   -- of these bytes unread and written, and those written after the run
   abbrev pub Runs : Option (List ℕ) → Option (List ℕ) → Option (List ℕ) → Type 0
-  Runs given held now = IsRun A rules (record { station = station; world = s; unread = given; written = held }) (record { result = r; world = t; written = now })
+  Runs given held now = IsRun A rules (record { speaker = speaker; world = s; unread = given; written = held }) (record { result = r; world = t; written = now })
 
   pub run_equal : {given given' held held' now now' : Option (List ℕ)} → given ≡ given' → held ≡ held' → now ≡ now' → Runs given held now → Runs given' held' now'
   run_equal {given' = given'} {held = held} {held' = held'} {now = now} gives holds leaves run =
@@ -17,7 +20,15 @@ module _ (A : Type 0) {W : Type 0} (rules : Rules A W) (station : ℕ) (s t : W)
       (subst (λ (i : Option (List ℕ)). Runs i held now) gives run))
 
 -- of what the desk stands for and the writer holds after the run
-pub run_left : (A : Type 0) {W : Type 0} (rules : Rules A W) (station : ℕ) (s : W) (r : Result Ran RunFault) {given held : Option (List ℕ)} (t : W) (now : Option (List ℕ)) {t' : W} {now' : Option (List ℕ)} →
-    t ≡ t' → now ≡ now' → Runs A rules station s t r given held now → Runs A rules station s t' r given held now'
-run_left A rules station s r {given = given} {held = held} t now {now' = now'} stands leaves run =
-    subst (λ u. Runs A rules station s u r given held now') stands (subst (λ (n : Option (List ℕ)). Runs A rules station s t r given held n) leaves run)
+pub run_left : (A : Type 0) {W : Type 0} (rules : Rules A W) (speaker : Speaker) (s : W) (r : Result Ran RunFault) {given held : Option (List ℕ)} (t : W) (now : Option (List ℕ)) {t' : W} {now' : Option (List ℕ)} →
+    t ≡ t' → now ≡ now' → Runs A rules speaker s t r given held now → Runs A rules speaker s t' r given held now'
+run_left A rules speaker s r {given = given} {held = held} t now {now' = now'} stands leaves run =
+    subst (λ u. Runs A rules speaker s u r given held now') stands (subst (λ (n : Option (List ℕ)). Runs A rules speaker s t r given held n) leaves run)
+
+-- what it told, by the same
+module _ (A : Type 0) {W : Type 0} (rules : Rules A W) (speaker : Speaker) (s : W) (r : Result Ran RunFault) (was read : List ℕ) (old : List Event) where
+  abbrev pub Tells : W → List Event → Type 0
+  Tells t now = (given : List ℕ) × (events : List Event) × (read ≡ was ++ given) × (now ≡ old ++ events) × IsTold A rules speaker s t given events r
+
+  pub told_left : (t : W) (now : List Event) {t' : W} {now' : List Event} → t ≡ t' → now ≡ now' → Tells t now → Tells t' now'
+  told_left t now stands leaves told = subst (λ (q : W × List Event). Tells q.0 q.1) (λ j. (stands j, leaves j)) told

@@ -32,8 +32,9 @@ use Rattle.console.specs.declared.body.Head.{Head}
 use Rattle.console.specs.declared.line.LineFault.{LineFault}
 use Rattle.console.specs.declared.line.LineFault.TheVariants.{Syntax, Value, TooLong}
 use Rattle.console.specs.declared.line.Line.{Line}
-use Rattle.console.specs.declared.line.Line.TheVariants.{Silent, Bad, Apply, Ask, Print}
-use Rattle.console.specs.Reading.{words, of_words, is_silent, longest_line, seconds_in, not_zero, sequence_in, head_of, head_in, area_in, lifetime_in, rule_of, rule_in, reference_in, kind_in, key_of, key_in, rule_body, mm_body, sds_body, group_sds_body, body_in, command_line, saying, query_in, ask, prefix_in, station_in, radios_under, due_at, listing_in, listing_or, print, of_word}
+use Rattle.console.specs.declared.line.Line.TheVariants.{Silent, Bad, Apply, Ask, Print, Mark, OwnStation}
+use Rattle.console.specs.Reading.{words, of_words, is_silent, longest_line, seconds_in, not_zero, sequence_in, head_of, head_in, area_in, lifetime_in, rule_of, rule_in, reference_in, kind_in, key_of, key_in, rule_body, mm_body, sds_body, group_sds_body, body_in, command_line, saying, query_in, ask, prefix_in, station_in, radios_under, due_at, listing_in, listing_or, print, marked, of_word}
+use Rattle.console.specs.Mark.{mark_in}
 use Rattle.mailbox.specs.Values.{KeyInRange}
 use Rattle.centre_core.specs.Ranges.{BodyInRange, InRange}
 use Rattle.listings.specs.Words.{kind_word}
@@ -64,7 +65,7 @@ lifetime_found : (o : Option ℕ) (life : Lifetime) → option_and_then lifetime
 lifetime_found None life e = absurd (none_some life e)
 lifetime_found (Some n) life e = ap Some (lifetime_number_only n life e)
 
-named : (name keyword : List ℕ) → bytes_eq name keyword ≡ true → name ≡ keyword
+pub named : (name keyword : List ℕ) → bytes_eq name keyword ≡ true → name ≡ keyword
 named name keyword e = (bytes_eq-Decides name keyword).0 e
 
 -- ---- forms
@@ -393,8 +394,26 @@ module _ {A : Type 0} where
   print_same : (k l : Listing) (e : (let line : Line A = Print k in line) ≡ Print l) → k ≡ l
   print_same k l e = cc
 
+  mark_command : (w : List ℕ) (c : Command A) (e : (let l : Line A = Mark w in l) ≡ Apply c) → ⊥
+  mark_command w c e = cc
+
+  mark_ask : (w : List ℕ) (q : Query) (e : (let l : Line A = Mark w in l) ≡ Ask q) → ⊥
+  mark_ask w q e = cc
+
+  mark_print : (w : List ℕ) (l : Listing) (e : (let line : Line A = Mark w in line) ≡ Print l) → ⊥
+  mark_print w l e = cc
+
+  own_command : (n : ℕ) (c : Command A) (e : (let l : Line A = OwnStation n in l) ≡ Apply c) → ⊥
+  own_command n c e = cc
+
+  own_ask : (n : ℕ) (q : Query) (e : (let l : Line A = OwnStation n in l) ≡ Ask q) → ⊥
+  own_ask n q e = cc
+
+  own_print : (n : ℕ) (l : Listing) (e : (let line : Line A = OwnStation n in line) ≡ Print l) → ⊥
+  own_print n l e = cc
+
   -- one of two lines, each of which gives the same
-  line_else : {P : Type 0} (b : Bool) (x y l : Line A) → (b ≡ true → x ≡ l → P) → (y ≡ l → P) → (if b then x else y) ≡ l → P
+  pub line_else : {P : Type 0} (b : Bool) (x y l : Line A) → (b ≡ true → x ≡ l → P) → (y ≡ l → P) → (if b then x else y) ≡ l → P
   line_else true x y l first second e = first refl e
   line_else false x y l first second e = second e
 
@@ -410,33 +429,48 @@ module _ {A : Type 0} where
   two_no_command (Some listing) r c e = print_no_command listing c e
   two_no_command None r c e = ask_no_command r c e
 
-  word_no_command : (name : List ℕ) (c : Command A) → of_word {A = A} name ≡ Apply c → ⊥
-  word_no_command name c e =
+  marked_no_command : (o : Option (List ℕ)) (c : Command A) (e : marked {A = A} o ≡ Apply c) → ⊥
+  marked_no_command (Some w) c e = mark_command w c e
+  marked_no_command None c e = bad_command Value c e
+
+  marked_no_ask : (o : Option (List ℕ)) (q : Query) (e : marked {A = A} o ≡ Ask q) → ⊥
+  marked_no_ask (Some w) q e = mark_ask w q e
+  marked_no_ask None q e = bad_ask Value q e
+
+  marked_no_print : (o : Option (List ℕ)) (l : Listing) (e : marked {A = A} o ≡ Print l) → ⊥
+  marked_no_print (Some w) l e = mark_print w l e
+  marked_no_print None l e = bad_print Value l e
+
+  word_no_command : (station : ℕ) (name : List ℕ) (c : Command A) → of_word {A = A} station name ≡ Apply c → ⊥
+  word_no_command station name c e =
       line_else (bytes_eq name (codes "count")) (Ask Total) _ (Apply c) (λ is same. ask_command Total c same)
       (line_else (bytes_eq name (codes "rules")) (Print (Entries Rules)) _ (Apply c) (λ is same. print_command (Entries Rules) c same)
       (line_else (bytes_eq name (codes "radios")) (Print (Entries (Radios None))) _ (Apply c) (λ is same. print_command (Entries (Radios None)) c same)
       (line_else (bytes_eq name (codes "items")) (Print (Entries Items)) _ (Apply c) (λ is same. print_command (Entries Items) c same)
-      (line_else (bytes_eq name (codes "room")) (Print Room) (Bad Syntax) (Apply c) (λ is same. print_command Room c same) (λ same. bad_command Syntax c same))))) e
+      (line_else (bytes_eq name (codes "room")) (Print Room) _ (Apply c) (λ is same. print_command Room c same)
+      (line_else (bytes_eq name (codes "station")) (OwnStation station) (Bad Syntax) (Apply c) (λ is same. own_command station c same) (λ same. bad_command Syntax c same)))))) e
 
-  word_asked : (name : List ℕ) (q : Query) → of_word {A = A} name ≡ Ask q → Asks q (name ∷ [])
-  word_asked name q e =
+  word_asked : (station : ℕ) (name : List ℕ) (q : Query) → of_word {A = A} station name ≡ Ask q → Asks q (name ∷ [])
+  word_asked station name q e =
       line_else (bytes_eq name (codes "count")) (Ask Total) _ (Ask q) (λ is same. subst (λ (p : Query). Asks p (name ∷ [])) (ask_same Total q same) (tt, named name (codes "count") is))
       (line_else (bytes_eq name (codes "rules")) (Print (Entries Rules)) _ (Ask q) (λ is same. absurd (print_ask (Entries Rules) q same))
       (line_else (bytes_eq name (codes "radios")) (Print (Entries (Radios None))) _ (Ask q) (λ is same. absurd (print_ask (Entries (Radios None)) q same))
       (line_else (bytes_eq name (codes "items")) (Print (Entries Items)) _ (Ask q) (λ is same. absurd (print_ask (Entries Items) q same))
-      (line_else (bytes_eq name (codes "room")) (Print Room) (Bad Syntax) (Ask q) (λ is same. absurd (print_ask Room q same)) (λ same. absurd (bad_ask Syntax q same)))))) e
+      (line_else (bytes_eq name (codes "room")) (Print Room) _ (Ask q) (λ is same. absurd (print_ask Room q same))
+      (line_else (bytes_eq name (codes "station")) (OwnStation station) (Bad Syntax) (Ask q) (λ is same. absurd (own_ask station q same)) (λ same. absurd (bad_ask Syntax q same))))))) e
 
   -- a listing that is named by a word alone
   alone : (keyword name : List ℕ) (k l : Listing) → Listable k → keyword ≡ listing_line k → bytes_eq name keyword ≡ true → (e : (let line : Line A = Print k in line) ≡ Print l) → Lists l (name ∷ [])
   alone keyword name k l range spelt is e = subst (λ (m : Listing). Lists m (name ∷ [])) (print_same k l e) (range, named name keyword is ∙ spelt)
 
-  word_listed : (name : List ℕ) (l : Listing) → of_word {A = A} name ≡ Print l → Lists l (name ∷ [])
-  word_listed name l e =
+  word_listed : (station : ℕ) (name : List ℕ) (l : Listing) → of_word {A = A} station name ≡ Print l → Lists l (name ∷ [])
+  word_listed station name l e =
       line_else (bytes_eq name (codes "count")) (Ask Total) _ (Print l) (λ is same. absurd (ask_print Total l same))
       (line_else (bytes_eq name (codes "rules")) (Print (Entries Rules)) _ (Print l) (alone (codes "rules") name (Entries Rules) l tt refl)
       (line_else (bytes_eq name (codes "radios")) (Print (Entries (Radios None))) _ (Print l) (alone (codes "radios") name (Entries (Radios None)) l tt refl)
       (line_else (bytes_eq name (codes "items")) (Print (Entries Items)) _ (Print l) (alone (codes "items") name (Entries Items) l tt refl)
-      (line_else (bytes_eq name (codes "room")) (Print Room) (Bad Syntax) (Print l) (alone (codes "room") name Room l tt refl) (λ same. absurd (bad_print Syntax l same)))))) e
+      (line_else (bytes_eq name (codes "room")) (Print Room) _ (Print l) (alone (codes "room") name Room l tt refl)
+      (line_else (bytes_eq name (codes "station")) (OwnStation station) (Bad Syntax) (Print l) (λ is same. absurd (own_print station l same)) (λ same. absurd (bad_print Syntax l same))))))) e
 
   ask_only : (r : Result Query LineFault) (q : Query) (e : ask {A = A} r ≡ Ask q) → r ≡ Ok q
   ask_only (Ok p) q e = ap (λ (o : Query). let r : Result Query LineFault = Ok o in r) (ask_same p q e)
@@ -481,8 +515,10 @@ module _ {A : Type 0} where
 
   words_spelled : (station : ℕ) (ws : List (List ℕ)) (c : Command A) → of_words station ws ≡ Apply c → IsSpelled station c ws
   words_spelled station [] c e = absurd (bad_command Syntax c e)
-  words_spelled station (name ∷ []) c e = absurd (word_no_command name c e)
-  words_spelled station (name ∷ word ∷ []) c e = absurd (two_no_command (listing_in name word) (query_in name word) c e)
+  words_spelled station (name ∷ []) c e = absurd (word_no_command station name c e)
+  words_spelled station (name ∷ word ∷ []) c e =
+      absurd (line_else (bytes_eq name (codes "mark")) (marked (mark_in word)) _ (Apply c) (λ is same. marked_no_command (mark_in word) c same)
+      (λ same. two_no_command (listing_in name word) (query_in name word) c same) e)
   words_spelled station (s ∷ m ∷ name ∷ more) c e =
       let f = command_only station (head_in s m) (body_in name more) c e in
       let head = head_spelled s m f.0 f.2 in
@@ -499,14 +535,18 @@ module _ {A : Type 0} where
 
   words_asked : (station : ℕ) (ws : List (List ℕ)) (q : Query) → of_words {A = A} station ws ≡ Ask q → Asks q ws
   words_asked station [] q e = absurd (bad_ask Syntax q e)
-  words_asked station (name ∷ []) q e = word_asked name q e
-  words_asked station (name ∷ word ∷ []) q e = query_spelled name word q (two_asked (listing_in name word) (query_in name word) q e)
+  words_asked station (name ∷ []) q e = word_asked station name q e
+  words_asked station (name ∷ word ∷ []) q e =
+      line_else (bytes_eq name (codes "mark")) (marked (mark_in word)) _ (Ask q) (λ is same. absurd (marked_no_ask (mark_in word) q same))
+      (λ same. query_spelled name word q (two_asked (listing_in name word) (query_in name word) q same)) e
   words_asked station (s ∷ m ∷ name ∷ more) q e = absurd (command_no_ask station (head_in s m) (body_in name more) q e)
 
   words_listed : (station : ℕ) (ws : List (List ℕ)) (l : Listing) → of_words {A = A} station ws ≡ Print l → Lists l ws
   words_listed station [] l e = absurd (bad_print Syntax l e)
-  words_listed station (name ∷ []) l e = word_listed name l e
-  words_listed station (name ∷ word ∷ []) l e = listing_spelled name word l (two_listed (listing_in name word) (query_in name word) l e)
+  words_listed station (name ∷ []) l e = word_listed station name l e
+  words_listed station (name ∷ word ∷ []) l e =
+      line_else (bytes_eq name (codes "mark")) (marked (mark_in word)) _ (Print l) (λ is same. absurd (marked_no_print (mark_in word) l same))
+      (λ same. listing_spelled name word l (two_listed (listing_in name word) (query_in name word) l same)) e
   words_listed station (s ∷ m ∷ name ∷ more) l e = absurd (command_no_print station (head_in s m) (body_in name more) l e)
 
   through_command : (long silent : Bool) (l : Line A) (c : Command A) → (if long then Bad TooLong else (if silent then Silent else l)) ≡ Apply c → (long ≡ false) × (l ≡ Apply c)

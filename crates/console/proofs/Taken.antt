@@ -54,21 +54,25 @@ digit_is_no_space c e = grind (arith, e)
 hexdigit_is_no_space : (c : ℕ) → is_ascii_hexdigit c ≡ true → (c == 32) ≡ false
 hexdigit_is_no_space c e = grind (arith, e)
 
+-- bytes of a kind that differs from the mark
+pub all_lack : (is_so : ℕ → Bool) (mark : ℕ) → ((c : ℕ) → is_so c ≡ true → (c == mark) ≡ false) → (ds : List ℕ) → list_all is_so ds ≡ true → Lacks mark ds
+all_lack is_so mark other [] e = All-nil (λ b. (b == mark) ≡ false)
+all_lack is_so mark other (c ∷ ds) e =
+    All-cons (λ b. (b == mark) ≡ false) c ds (other c (and_left (is_so c) (list_all is_so ds) e)) (all_lack is_so mark other ds (and_right (is_so c) (list_all is_so ds) e))
+
 digits_lack : (ds : List ℕ) → list_all is_ascii_digit ds ≡ true → Lacks 32 ds
-digits_lack [] e = All-nil (λ b. (b == 32) ≡ false)
-digits_lack (c ∷ ds) e = All-cons (λ b. (b == 32) ≡ false) c ds (digit_is_no_space c (and_left (is_ascii_digit c) (list_all is_ascii_digit ds) e)) (digits_lack ds (and_right (is_ascii_digit c) (list_all is_ascii_digit ds) e))
+digits_lack ds e = all_lack is_ascii_digit 32 digit_is_no_space ds e
 
 hexdigits_lack : (ds : List ℕ) → list_all is_ascii_hexdigit ds ≡ true → Lacks 32 ds
-hexdigits_lack [] e = All-nil (λ b. (b == 32) ≡ false)
-hexdigits_lack (c ∷ ds) e = All-cons (λ b. (b == 32) ≡ false) c ds (hexdigit_is_no_space c (and_left (is_ascii_hexdigit c) (list_all is_ascii_hexdigit ds) e)) (hexdigits_lack ds (and_right (is_ascii_hexdigit c) (list_all is_ascii_hexdigit ds) e))
+hexdigits_lack ds e = all_lack is_ascii_hexdigit 32 hexdigit_is_no_space ds e
 
-decimal_digits : (n : ℕ) → n < 2 ^ 64 → list_all is_ascii_digit (decimal n) ≡ true
+pub decimal_digits : (n : ℕ) → n < 2 ^ 64 → list_all is_ascii_digit (decimal n) ≡ true
 decimal_digits n small = all_of_number (decimal n) (number_of_decimal n small)
 
 decimal_lacks : (n : ℕ) → n < 2 ^ 64 → Lacks 32 (decimal n)
 decimal_lacks n small = digits_lack (decimal n) (decimal_digits n small)
 
-letters_lack : (text : List ℕ) → list_all (λ b. not (b == 32)) text ≡ true → Lacks 32 text
+pub letters_lack : (text : List ℕ) → list_all (λ b. not (b == 32)) text ≡ true → Lacks 32 text
 letters_lack [] e = All-nil (λ b. (b == 32) ≡ false)
 letters_lack (c ∷ text) e =
     let first : (c == 32) ≡ false = let other = and_left (not (c == 32)) (list_all (λ b. not (b == 32)) text) e in grind (arith, other) in
@@ -84,7 +88,7 @@ identity_lacks n small = marked_lack (decimal (mcc_of n) ++ 45 ∷ decimal (mnc_
     (marked_lack (decimal (mcc_of n)) (decimal (mnc_of n)) 45 refl (decimal_lacks (mcc_of n) (omega (arith, small))) (decimal_lacks (mnc_of n) (omega (arith, small))))
     (decimal_lacks (ssi_of n) (omega (arith, small)))
 
-aligned_below : (p : Path) → length p ≤ 48 → left_aligned p < 2 ^ 48
+pub aligned_below : (p : Path) → length p ≤ 48 → left_aligned p < 2 ^ 48
 unfolding left_aligned
 aligned_below p few =
     let whole : length (p ++ replicate (48 - length p) false) ≡ 48 = grind (arith, common_steps, few) in
@@ -104,7 +108,7 @@ abbrev pub AllLack : List (List ℕ) → Type 0
 AllLack [] = Unit {0}
 AllLack (w ∷ ws) = Lacks 32 w × AllLack ws
 
-words_back : (w : List ℕ) (ws : List (List ℕ)) → AllLack (w ∷ ws) → words (spaced (w ∷ ws)) ≡ w ∷ ws
+pub words_back : (w : List ℕ) (ws : List (List ℕ)) → AllLack (w ∷ ws) → words (spaced (w ∷ ws)) ≡ w ∷ ws
 words_back w [] lack = slice_split_none is_space w lack.0
 words_back w (v ∷ vs) lack = slice_split_at is_space w 32 (spaced (v ∷ vs)) lack.0 refl ∙ ap (λ more. w ∷ more) (words_back v vs lack.1)
 
@@ -126,7 +130,7 @@ station_again n small = ap result_ok (reading_number_again 65535 n (omega (arith
 area_again : (n : ℕ) → n < 2 ^ 14 → area_in (decimal n) ≡ Some n
 area_again n small = ap result_ok (reading_number_again 16383 n (omega (arith, small)) (omega arith))
 
-lifetime_small : (life : Lifetime) → lifetime_number life ≤ 3
+pub lifetime_small : (life : Lifetime) → lifetime_number life ≤ 3
 lifetime_small NotNeeded = omega arith
 lifetime_small NextItsiAttach = omega arith
 lifetime_small NotAllowedAtNextItsiAttach = omega arith
@@ -187,7 +191,7 @@ first_speaks [] rest all some = absurd (omega (arith, some))
 first_speaks (c ∷ ds) rest all some = let digit = and_left (is_ascii_digit c) (list_all is_ascii_digit ds) all in grind (arith, digit)
 
 module _ {A : Type 0} where
-  passes : (station : ℕ) (line : List ℕ) (said : Line A) → length line ≤ longest_line → is_silent line ≡ false → of_words station (words line) ≡ said → reading station line ≡ said
+  pub passes : (station : ℕ) (line : List ℕ) (said : Line A) → length line ≤ longest_line → is_silent line ≡ false → of_words station (words line) ≡ said → reading station line ≡ said
   passes station line said short speaks is = let fits : nat_lt longest_line (length line) ≡ false = grind (arith, short) in rw (fits, speaks) is
 
   mm_same : (i a : ℕ) (p : List Bool) (i' a' : Option ℕ) (p' : Option (List Bool)) → i' ≡ Some i → a' ≡ Some a → p' ≡ Some p → mm_body {A = A} i' a' p' ≡ Ok (Mm i a p)

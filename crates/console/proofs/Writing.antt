@@ -1,18 +1,20 @@
 -- Bytes that are written a part at a time.
-use Rattle.std.proofs.Common.{◌≡◌, ℕ, ◌+◌, ◌-◌, ◌≤◌, ◌<◌, ◌∷◌, get_or, slice_get, Some, sym, ap, ◌∙◌, List, [], ◌++◌, length, take, drop, refl, arith, append_assoc}
-use Rattle.std.proofs.lemmas.List.{take_all, take_more, take-append-drop, append-nil}
+use Rattle.std.proofs.Common.{◌≡◌, ℕ, ◌+◌, ◌-◌, ◌≤◌, ◌<◌, ◌∷◌, get_or, slice_get, Some, sym, ap, ◌∙◌, List, [], ◌++◌, length, take, drop, arith, append_assoc}
+use Rattle.std.proofs.lemmas.List.{drop_all, drop-drop, take_all, take_more, take-append-drop, append-nil}
 use Rattle.std.proofs.lemmas.Option.{get_or_from_slice_get}
 use Rattle.std.proofs.Math.Seq.{take-add}
 use Rattle.std.proofs.lemmas.Grind.{common_steps}
 
-pub written_all : (bytes : List ℕ) (at : ℕ) → at ≡ length bytes → take at bytes ≡ bytes
-written_all bytes at all = take_all at bytes (omega (arith, all))
+-- what is left of bytes, and what is left after more of them
+pub left_of : (bytes : List ℕ) (at : ℕ) → take (length bytes - at) (drop at bytes) ≡ drop at bytes
+left_of bytes at = take_all (length bytes - at) (drop at bytes) (grind (arith, common_steps))
 
-pub resume : (before bytes : List ℕ) (at n : ℕ) → at ≤ length bytes →
-    (before ++ take at bytes) ++ take n (take (length bytes - at) (drop at bytes)) ≡ before ++ take (at + n) bytes
-resume before bytes at n within =
-    let whole : take (length bytes - at) (drop at bytes) ≡ drop at bytes = take_all (length bytes - at) (drop at bytes) (grind (arith, common_steps)) in
-    rw (whole, append_assoc, take-add) refl
+pub left_later : (bytes : List ℕ) (at n : ℕ) → drop n (take (length bytes - at) (drop at bytes)) ≡ drop (at + n) bytes
+left_later bytes at n = ap (drop n) (left_of bytes at) ∙ drop-drop n at bytes
+
+-- nothing is left at the end
+pub none_left : (bytes : List ℕ) (at : ℕ) → at ≡ length bytes → drop at bytes ≡ []
+none_left bytes at all = drop_all at bytes (omega (arith, all))
 
 -- what was taken of a piece, and what is left of it and after it
 pub left_after : (taken piece rest : List ℕ) (at : ℕ) → (taken ++ take at piece) ++ (drop at piece ++ rest) ≡ (taken ++ piece) ++ rest

@@ -85,6 +85,9 @@ module _ {B : Type 0} where
   text (answer.Queried query_answer) = query_answer_text query_answer
   text (answer.Listed lines) = lines
   text (answer.QueryOutage line word) = codes "line " ++ decimal line ++ codes " no " ++ outage_word word ++ codes "\n"
+  text (answer.Marked word) = codes "mark " ++ word ++ codes "\n"
+  text (answer.OwnStation station) = codes "station " ++ decimal station ++ codes "\n"
+  text (answer.Forbidden sequence) = decimal sequence ++ codes " no forbidden" ++ codes "\n"
 
   -- the lines of all answers, one after another
   abbrev pub texts : List (Answer B) → List Byte

@@ -2,10 +2,8 @@
 use Rattle.std.specs.Prelude.{◌≡◌, ◌⊎◌, ℕ, ◌+◌, ◌≤◌, Bool, true, false, List, [], ◌∷◌, ◌++◌, length, Ok, Err}
 use Rattle.std.specs.List.{list_any}
 use Rattle.identity.specs.Numbers.{Byte}
-use Rattle.registration.specs.Numbers.{Station}
 use Rattle.centre_core.specs.State.{State}
 use Rattle.centre_core.specs.declared.command.Command.{Command}
-use Rattle.centre_core.specs.declared.reply.Reply.{Reply}
 use Rattle.centre_core.specs.declared.query.Query.{Query}
 use Rattle.centre_core.specs.declared.query.QueryAnswer.{QueryAnswer}
 use Rattle.desk.specs.declared.outage.Outage.{Outage}
@@ -18,7 +16,7 @@ use Rattle.console.specs.declared.line.Line.{Line}
 use Rattle.console.specs.declared.line.Line.TheVariants as line
 use Rattle.console.specs.declared.answer.Answer.{Answer}
 use Rattle.console.specs.declared.answer.Answer.TheVariants as answer
-use Rattle.console.specs.Reading.{reading, HasPdu}
+use Rattle.console.specs.Reading.{Speaker, heard, HasPdu}
 use Rattle.console.specs.Answer.{texts, is_trouble, is_outage, is_list}
 
 -- memory runs out for the text of a list that the desk answers
@@ -60,29 +58,32 @@ module _ {A W : Type 0} where
   AnswersReading rules n s (line.Apply c) given t = AnswersCommand rules s c given t
   AnswersReading rules n s (line.Ask q) given t = AnswersQuery rules n s q given t
   AnswersReading rules n s (line.Print l) given t = AnswersListing rules n s l given t
+  AnswersReading rules n s (line.Mark word) given t = (given ≡ answer.Marked word) × (t ≡ s)
+  AnswersReading rules n s (line.OwnStation station) given t = (given ≡ answer.OwnStation station) × (t ≡ s)
+  AnswersReading rules n s (line.Forbidden sequence) given t = (given ≡ answer.Forbidden sequence) × (t ≡ s)
 
-  -- the answer to the line numbered n, whose text is from this station
-  abbrev pub Answers : Rules A W → Station → ℕ → W → List Byte → Answer A → W → Type 0
-  Answers rules station n s text given t = AnswersReading rules n s (reading station text) given t
+  -- the answer to the line numbered n, whose text is from this speaker
+  abbrev pub Answers : Rules A W → Speaker → ℕ → W → List Byte → Answer A → W → Type 0
+  Answers rules speaker n s text given t = AnswersReading rules n s (heard speaker text) given t
 
   -- one answer for each line, in order; n lines came before
-  abbrev pub Dialogue : Rules A W → Station → ℕ → W → List (List Byte) → List (Answer A) → W → Type 0
-  Dialogue rules station n s [] [] t = t ≡ s
-  Dialogue rules station n s [] (given ∷ answers) t = ⊥
-  Dialogue rules station n s (text ∷ texts) [] t = ⊥
-  Dialogue rules station n s (text ∷ texts) (given ∷ answers) t =
-      (mid : W) × Answers rules station (n + 1) s text given mid × Dialogue rules station (n + 1) mid texts answers t
+  abbrev pub Dialogue : Rules A W → Speaker → ℕ → W → List (List Byte) → List (Answer A) → W → Type 0
+  Dialogue rules speaker n s [] [] t = t ≡ s
+  Dialogue rules speaker n s [] (given ∷ answers) t = ⊥
+  Dialogue rules speaker n s (text ∷ texts) [] t = ⊥
+  Dialogue rules speaker n s (text ∷ texts) (given ∷ answers) t =
+      (mid : W) × Answers rules speaker (n + 1) s text given mid × Dialogue rules speaker (n + 1) mid texts answers t
 
 -- the text out is the answers to the lines; troubled is whether there is trouble in them
-pub record IsDialogue (A : Type 0) {W : Type 0} (rules : Rules A W) (station : Station) (s : W)
+pub record IsDialogue (A : Type 0) {W : Type 0} (rules : Rules A W) (speaker : Speaker) (s : W)
     (given : List (List Byte)) (out : List Byte) (troubled : Bool) (t : W) : Type 0 where
   pub answers : List (Answer A)
-  pub each : Dialogue rules station 0 s given answers t
+  pub each : Dialogue rules speaker 0 s given answers t
   pub written : out ≡ texts answers
   pub trouble : troubled ≡ list_any is_trouble answers
 
 -- cut off: some lines were done, and their answers were written; of the answers to the last ones, at most 64, perhaps only a prefix
-pub record IsCutOff (A : Type 0) {W : Type 0} (rules : Rules A W) (station : Station) (s : W)
+pub record IsCutOff (A : Type 0) {W : Type 0} (rules : Rules A W) (speaker : Speaker) (s : W)
     (given : List (List Byte)) (out : List Byte) (t : W) : Type 0 where
   pub done : List (List Byte)
   pub left : List (List Byte)
@@ -91,25 +92,25 @@ pub record IsCutOff (A : Type 0) {W : Type 0} (rules : Rules A W) (station : Sta
   pub part : List Byte
   pub missing : List Byte
   pub all : given ≡ done ++ left
-  pub each : Dialogue rules station 0 s done (answered ++ last) t
+  pub each : Dialogue rules speaker 0 s done (answered ++ last) t
   pub few : length last ≤ 64
   pub prefix : texts last ≡ part ++ missing
   pub written : out ≡ texts answered ++ part
 
 -- the text is a prefix of one that may be written for the lines
-pub record IsPrefix (A : Type 0) {W : Type 0} (rules : Rules A W) (station : Station) (s : W) (given : List (List Byte)) (out : List Byte) : Type 0 where
+pub record IsPrefix (A : Type 0) {W : Type 0} (rules : Rules A W) (speaker : Speaker) (s : W) (given : List (List Byte)) (out : List Byte) : Type 0 where
   pub missing : List Byte
   pub troubled : Bool
   pub after : W
-  pub dialogue : IsDialogue A rules station s given (out ++ missing) troubled after
+  pub dialogue : IsDialogue A rules speaker s given (out ++ missing) troubled after
 
 -- at desks of this kind, a text that was cut off is a prefix of one that may be written
 abbrev pub CutOffIsPrefix : (A : Type 0) {W : Type 0} → Rules A W → Type 0
-CutOffIsPrefix A {W = W} rules = (station : Station) (s t : W) (given : List (List Byte)) (out : List Byte) →
-    IsCutOff A rules station s given out t → IsPrefix A rules station s given out
+CutOffIsPrefix A {W = W} rules = (speaker : Speaker) (s t : W) (given : List (List Byte)) (out : List Byte) →
+    IsCutOff A rules speaker s given out t → IsPrefix A rules speaker s given out
 
 -- without outage words the lines determine the answers and the register
 abbrev pub OneText : Type 0 → Type 0
-OneText A = (station : Station) (n : ℕ) (s t u : State) (given : List (List Byte)) (xs ys : List (Answer A)) →
-    Dialogue of_register station n s given xs t → Dialogue of_register station n s given ys u →
+OneText A = (speaker : Speaker) (n : ℕ) (s t u : State) (given : List (List Byte)) (xs ys : List (Answer A)) →
+    Dialogue of_register speaker n s given xs t → Dialogue of_register speaker n s given ys u →
     list_any is_outage xs ≡ false → list_any is_outage ys ≡ false → (xs ≡ ys) × (t ≡ u)

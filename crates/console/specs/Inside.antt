@@ -4,3 +4,7 @@ pub mod Given
 pub mod Marks
 pub mod Left
 pub mod Together
+pub mod EventCode
+pub mod Noted
+pub mod Passing
+pub mod MarkFields

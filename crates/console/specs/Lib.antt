@@ -1,9 +1,12 @@
 pub mod Words
+pub mod Mark
 pub mod Reading
 pub mod Answer
 pub mod Dialogue
 pub mod Spelling
 pub mod Failures
 pub mod Runs
+pub mod Events
+pub mod Told
 pub mod Stored
 pub mod Inside

@@ -31,7 +31,8 @@ use Rattle.console.specs.declared.body.Head.{Head}
 use Rattle.console.specs.declared.line.LineFault.{LineFault}
 use Rattle.console.specs.declared.line.LineFault.TheVariants.{Syntax, Value, TooLong}
 use Rattle.console.specs.declared.line.Line.{Line}
-use Rattle.console.specs.declared.line.Line.TheVariants.{Silent, Bad, Apply, Ask, Print}
+use Rattle.console.specs.declared.line.Line.TheVariants.{Silent, Bad, Apply, Ask, Print, Mark, OwnStation, Forbidden}
+use Rattle.console.specs.Mark.{mark_in}
 
 -- no byte of the text is the mark
 abbrev pub Lacks : Byte → List Byte → Type 0
@@ -205,14 +206,20 @@ module _ {A : Type 0} where
   print (Ok listing) = Print listing
   print (Err fault) = Bad fault
 
-  -- a word alone: the count, or a listing
-  abbrev pub of_word : List Byte → Line A
-  of_word name =
+  -- a mark, or a bad line
+  abbrev pub marked : Option (List Byte) → Line A
+  marked (Some word) = Mark word
+  marked None = Bad Value
+
+  -- a word alone: the count, a listing, or the question which station this is
+  abbrev pub of_word : Station → List Byte → Line A
+  of_word station name =
       if bytes_eq name (codes "count") then Ask Total
       else if bytes_eq name (codes "rules") then Print (Entries Rules)
       else if bytes_eq name (codes "radios") then Print (Entries (Radios None))
       else if bytes_eq name (codes "items") then Print (Entries Items)
       else if bytes_eq name (codes "room") then Print Room
+      else if bytes_eq name (codes "station") then OwnStation station
       else Bad Syntax
 
   -- a listing, or else a query
@@ -220,20 +227,25 @@ module _ {A : Type 0} where
   listing_or (Some listing) query = print listing
   listing_or None query = ask query
 
-  -- two words
+  -- two words: a mark, a listing or a query
   abbrev pub of_two : List Byte → List Byte → Line A
-  of_two name word = listing_or (listing_in name word) (query_in name word)
+  of_two name word = if bytes_eq name (codes "mark") then marked (mark_in word) else listing_or (listing_in name word) (query_in name word)
 
-  -- one or two words are a query or a listing, more are a command
+  -- one or two words are a mark, a query or a listing, more are a command
   abbrev pub of_words : Station → List (List Byte) → Line A
   of_words station [] = Bad Syntax
-  of_words station (name ∷ []) = of_word name
+  of_words station (name ∷ []) = of_word station name
   of_words station (name ∷ word ∷ []) = of_two name word
   of_words station (sequence ∷ moment ∷ name ∷ more) = command_line station (head_in sequence moment) (body_in name more)
 
 -- the most bytes of a line, without its end
 abbrev pub longest_line : ℕ
 longest_line = 1024
+
+-- whose lines are read: a station, and whether it may give orders
+pub record Speaker : Type 0 where
+  pub station : Station
+  pub orders : Bool
 
 -- empty, or a comment
 abbrev pub is_silent : List Byte → Bool
@@ -247,6 +259,24 @@ module _ {A : Type 0} where
       if nat_lt longest_line (length line) then Bad TooLong
       else if is_silent line then Silent
       else of_words station (words line)
+
+  -- the body is an order: it changes the rules, or ends messages without their radios
+  abbrev pub is_order : Body A → Bool
+  is_order (RuleSet prefix rule) = true
+  is_order (RuleClear prefix) = true
+  is_order Expire = true
+  is_order (Delete key) = true
+  is_order other = false
+
+  -- a line that gives an order is forbidden to a station that may give none
+  abbrev pub permitted : Bool → Line A → Line A
+  permitted true line = line
+  permitted false (Apply c) = if is_order c.body then Forbidden c.sequence else Apply c
+  permitted false other = other
+
+  -- what a line asks, by what it says and whose it is
+  abbrev pub heard : Speaker → List Byte → Line A
+  heard speaker line = permitted speaker.orders (reading speaker.station line)
 
   -- the body has a PDU
   abbrev pub HasPdu : Body A → Type 0

@@ -3,16 +3,21 @@
 use Rattle.std.specs.Prelude.{◌≡◌, ◌++◌, List, length, Option, Some, Result, IfOk, OnErr}
 use Rattle.std.specs.Str.Lines.{lines}
 use Rattle.identity.specs.Numbers.{Byte}
-use Rattle.registration.specs.Numbers.{Station}
 use Rattle.desk.specs.Rules.{Rules}
 use Rattle.console.specs.declared.running.Ran.{Ran}
 use Rattle.console.specs.declared.running.RunFault.{RunFault}
+use Rattle.console.specs.declared.running.Terms.{Terms}
+use Rattle.console.specs.Reading.{Speaker}
 use Rattle.console.specs.Dialogue.{IsDialogue, IsCutOff}
 
--- what a run begins with: the station of the lines, the world of the desk, the bytes that the reader has left, and those that
+-- whose lines are read under these terms
+abbrev pub speaker_of : {A : Type 0} → Terms A → Speaker
+speaker_of terms = record { station = terms.station; orders = terms.orders }
+
+-- what a run begins with: the speaker of the lines, the world of the desk, the bytes that the reader has left, and those that
 -- were written
 pub record Start (W : Type 0) : Type 0 where
-  pub station : Station
+  pub speaker : Speaker
   pub world : W
   pub unread : Option (List Byte)
   pub written : Option (List Byte)
@@ -26,11 +31,11 @@ pub record Outcome (W : Type 0) : Type 0 where
 module _ (A : Type 0) {W : Type 0} (rules : Rules A W) (start : Start W) (end : Outcome W) where
   -- the text out answers every line of this input
   abbrev pub RunsWell : List Byte → List Byte → Ran → Type 0
-  RunsWell input out ran = IsDialogue A rules start.station start.world (lines input) out ran.troubled end.world × (ran.lines ≡ length (lines input))
+  RunsWell input out ran = IsDialogue A rules start.speaker start.world (lines input) out ran.troubled end.world × (ran.lines ≡ length (lines input))
 
   -- some lines of this input are done, and their answers may be cut off
   abbrev pub RunsShort : List Byte → List Byte → Type 0
-  RunsShort input out = IsCutOff A rules start.station start.world (lines input) out end.world
+  RunsShort input out = IsCutOff A rules start.speaker start.world (lines input) out end.world
 
   -- the run wrote a text after what was written before: at Ok it answers all of this input, at Err some of it
   abbrev pub HasRun : List Byte → List Byte → Type 0

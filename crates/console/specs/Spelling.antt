@@ -1,5 +1,5 @@
--- The lines that spell a command or a query.
-use Rattle.std.specs.Prelude.{◌≡◌, ◌↔◌, ◌⊎◌, ◌<◌, ◌≤◌, ◌^◌, Bool, true, false, length, List, [], ◌∷◌, Some, None, codes, decimal}
+-- The lines that spell a command, a query, a listing or a mark.
+use Rattle.std.specs.Prelude.{◌≡◌, ◌↔◌, ◌⊎◌, ◌<◌, ◌≤◌, ◌^◌, Bool, true, false, length, List, [], ◌∷◌, ◌++◌, Some, None, codes, decimal}
 use Rattle.std.specs.List.{join_with_byte, list_any}
 use Rattle.std.specs.Str.{bytes_eq}
 use Rattle.identity.specs.Numbers.{Byte}
@@ -11,6 +11,7 @@ use Rattle.mailbox.specs.declared.key.Key.{Key}
 use Rattle.centre_core.specs.declared.command.Command.{Command}
 use Rattle.centre_core.specs.declared.command.Body.{Body}
 use Rattle.centre_core.specs.declared.command.Body.TheVariants.{RuleSet, RuleClear, Mm, Sds, GroupSds, Sent, Expire, Delete}
+use Rattle.centre_core.specs.Numbers.{Sequence}
 use Rattle.centre_core.specs.Ranges.{InRange}
 use Rattle.centre_core.specs.declared.query.Query.{Query}
 use Rattle.centre_core.specs.declared.query.Query.TheVariants.{Whereabouts, Look, GroupsOf, MembersOf, Waiting, Total}
@@ -18,8 +19,9 @@ use Rattle.listings.specs.Words.{kind_word}
 use Rattle.listings.specs.declared.listing.Listing.{Listing}
 use Rattle.listings.specs.declared.listing.Listing.TheVariants.{Entries, Last, Room}
 use Rattle.listings.specs.declared.listing.Table.TheVariants.{Rules, Radios, Items, Due}
-use Rattle.console.specs.declared.line.Line.TheVariants.{Bad, Apply, Ask, Print}
+use Rattle.console.specs.declared.line.Line.TheVariants.{Bad, Apply, Ask, Print, Mark, OwnStation, Forbidden}
 use Rattle.console.specs.declared.line.LineFault.TheVariants.{Syntax, Value, TooLong}
+use Rattle.console.specs.Mark.{is_mark}
 use Rattle.console.specs.Reading.{reading, words, is_silent, longest_line}
 
 -- words with single spaces between them
@@ -88,6 +90,14 @@ Listable (Entries (Due moment)) = moment < 2 ^ 32
 Listable (Last station) = station < 2 ^ 16
 Listable Room = Unit {0}
 
+-- a mark's line
+abbrev pub mark_line : List Byte → List Byte
+mark_line word = spaced (codes "mark" ∷ word ∷ [])
+
+-- the line that asks which station this is
+abbrev pub station_line : List Byte
+station_line = codes "station"
+
 -- a line from this station gives a command: it spells that command, which is in range and of the station
 pub record GivesCommand {A : Type 0} (station : Station) (line : List Byte) (c : Command A) : Type 0 where
   pub of_station : c.station ≡ station
@@ -107,6 +117,11 @@ pub record GivesListing (line : List Byte) (l : Listing) : Type 0 where
   pub spelt : line ≡ listing_line l
   pub short : length line ≤ longest_line
 
+-- a line gives a mark: it is that mark's line, and the word can be a mark
+pub record GivesMark (line word : List Byte) : Type 0 where
+  pub in_range : is_mark word ≡ true
+  pub spelt : line ≡ mark_line word
+
 -- a line is read as a command only if it gives that command
 abbrev pub OnlyCommands : Type 0 → Type 0
 OnlyCommands A = (station : Station) (line : List Byte) (c : Command A) → reading station line ≡ Apply c → GivesCommand station line c
@@ -118,6 +133,18 @@ OnlyQueries A = (station : Station) (line : List Byte) (q : Query) → reading {
 -- a line is read as a listing only if it gives that listing
 abbrev pub OnlyListings : Type 0 → Type 0
 OnlyListings A = (station : Station) (line : List Byte) (l : Listing) → reading {A = A} station line ≡ Print l → GivesListing line l
+
+-- a line is read as a mark only if it gives that mark
+abbrev pub OnlyMarks : Type 0 → Type 0
+OnlyMarks A = (station : Station) (line word : List Byte) → reading {A = A} station line ≡ Mark word → GivesMark line word
+
+-- only one line asks which station this is, and only the own station is said
+abbrev pub OnlyOwnStation : Type 0 → Type 0
+OnlyOwnStation A = (station said : Station) (line : List Byte) → reading {A = A} station line ≡ OwnStation said → (said ≡ station) × (line ≡ station_line)
+
+-- what a line says is not forbidden before it is known who speaks
+abbrev pub NothingForbidden : Type 0 → Type 0
+NothingForbidden A = (station : Station) (line : List Byte) (sequence : Sequence) → reading {A = A} station line ≡ Forbidden sequence → ⊥
 
 -- each line that spells a command in range is read as that command
 abbrev pub AllCommands : Type 0 → Type 0
@@ -131,15 +158,27 @@ AllQueries A = (station : Station) (q : Query) → Askable q → length (query_t
 abbrev pub AllListings : Type 0 → Type 0
 AllListings A = (station : Station) (l : Listing) → Listable l → reading {A = A} station (listing_line l) ≡ Print l
 
+-- each line of a mark is read as that mark
+abbrev pub AllMarks : Type 0 → Type 0
+AllMarks A = (station : Station) (word : List Byte) → is_mark word ≡ true → reading {A = A} station (mark_line word) ≡ Mark word
+
+-- the line that asks which station this is, is read so
+abbrev pub AllOwnStation : Type 0 → Type 0
+AllOwnStation A = (station : Station) → reading {A = A} station station_line ≡ OwnStation station
+
+-- a line in which `mark` and a space come is read as no command, whatever comes before them: so a mark completes no line that was cut
+abbrev pub MarkCompletesNoCommand : Type 0 → Type 0
+MarkCompletesNoCommand A = (station : Station) (before word : List Byte) (c : Command A) → reading station (before ++ codes "mark " ++ word) ≡ Apply c → ⊥
+
 -- a word is one of these
 abbrev pub is_one_of : List (List Byte) → List Byte → Bool
 is_one_of names word = list_any (bytes_eq word) names
 
--- the forms of lines, by their number of words: a query or a listing is named by its first word, a command by its third
+-- the forms of lines, by their number of words: a mark, a query or a listing is named by its first word, a command by its third
 abbrev pub has_form : List (List Byte) → Bool
-has_form (name ∷ []) = is_one_of (codes "count" ∷ codes "rules" ∷ codes "radios" ∷ codes "items" ∷ codes "room" ∷ []) name
+has_form (name ∷ []) = is_one_of (codes "count" ∷ codes "rules" ∷ codes "radios" ∷ codes "items" ∷ codes "room" ∷ codes "station" ∷ []) name
 has_form (name ∷ word ∷ []) =
-    is_one_of (codes "radios" ∷ codes "due" ∷ codes "last"
+    is_one_of (codes "mark" ∷ codes "radios" ∷ codes "due" ∷ codes "last"
     ∷ codes "where" ∷ codes "look" ∷ codes "groups" ∷ codes "members" ∷ codes "mail" ∷ []) name
 has_form (sequence ∷ moment ∷ name ∷ []) = is_one_of (codes "expire" ∷ []) name
 has_form (sequence ∷ moment ∷ name ∷ a ∷ []) = is_one_of (codes "unrule" ∷ []) name
@@ -160,9 +199,13 @@ IsQueryLine line = (q : Query) × Askable q × (line ≡ query_text q)
 abbrev pub IsListingLine : List Byte → Type 0
 IsListingLine line = (l : Listing) × Listable l × (line ≡ listing_line l)
 
--- a line spells a command of its station, a query or a listing, in range
+-- a line spells a mark
+abbrev pub IsMarkLine : List Byte → Type 0
+IsMarkLine line = (word : List Byte) × (is_mark word ≡ true) × (line ≡ mark_line word)
+
+-- a line spells a command of its station, a query, a listing or a mark, in range; or it asks which station this is
 abbrev pub SpellsSome : Type 0 → Station → List Byte → Type 0
-SpellsSome A station line = IsCommandLine A station line ⊎ IsQueryLine line ⊎ IsListingLine line
+SpellsSome A station line = IsCommandLine A station line ⊎ IsQueryLine line ⊎ IsListingLine line ⊎ IsMarkLine line ⊎ (line ≡ station_line)
 
 -- the line is short enough, and neither empty nor a comment
 abbrev pub IsJudged : List Byte → Type 0

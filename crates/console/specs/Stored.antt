@@ -2,7 +2,6 @@
 use Rattle.std.specs.Prelude.{◌≡◌, ◌⊎◌, ℕ, All, false, List, ◌∷◌, ◌++◌}
 use Rattle.std.specs.List.{list_any}
 use Rattle.identity.specs.Numbers.{Byte}
-use Rattle.registration.specs.Numbers.{Station}
 use Rattle.centre_core.specs.Numbers.{Sequence}
 use Rattle.desk.specs.declared.outage.Outage.TheVariants.{Memory, Device, Broken}
 use Rattle.desk.specs.OfRegister.{of_register}
@@ -10,9 +9,10 @@ use Rattle.desk.specs.OfStore.{Stored, of_store}
 use Rattle.console.specs.declared.answer.Answer.{Answer}
 use Rattle.console.specs.declared.answer.Answer.TheVariants as answer
 use Rattle.console.specs.Answer.{is_outage}
+use Rattle.console.specs.Reading.{Speaker}
 use Rattle.console.specs.Dialogue.{Dialogue}
 
--- the answer is `broken`; or the line did not reach the desk: it is silent or bad, or memory ran out for its PDU
+-- the answer is `broken`; or the line did not reach the desk: it asks nothing of it, is bad or forbidden, or memory ran out for its PDU
 abbrev pub SaysBroken : {A : Type 0} → Answer A → Type 0
 SaysBroken (answer.Replied sequence reply) = ⊥
 SaysBroken (answer.CommandOutage sequence word) = (word ≡ Broken) ⊎ (word ≡ Memory)
@@ -23,18 +23,18 @@ SaysBroken other = Unit {0}
 
 -- after the answer `device`, each later line is answered so
 abbrev pub BrokenAfterDevice : Type 0 → Type 0
-BrokenAfterDevice A = (station : Station) (n : ℕ) (sequence : Sequence) (s t : Stored) (given : List (List Byte)) (before following : List (Answer A)) →
-    Dialogue of_store station n s given (before ++ answer.CommandOutage sequence Device ∷ following) t → All SaysBroken following
+BrokenAfterDevice A = (speaker : Speaker) (n : ℕ) (sequence : Sequence) (s t : Stored) (given : List (List Byte)) (before following : List (Answer A)) →
+    Dialogue of_store speaker n s given (before ++ answer.CommandOutage sequence Device ∷ following) t → All SaysBroken following
 
 -- the lines before the answer `device` made the register, which stays as it is from then on
 abbrev pub RegisterAtDevice : Type 0 → Type 0
-RegisterAtDevice A = (station : Station) (n : ℕ) (sequence : Sequence) (s t : Stored) (given : List (List Byte)) (before following : List (Answer A)) →
-    Dialogue of_store station n s given (before ++ answer.CommandOutage sequence Device ∷ following) t →
+RegisterAtDevice A = (speaker : Speaker) (n : ℕ) (sequence : Sequence) (s t : Stored) (given : List (List Byte)) (before following : List (Answer A)) →
+    Dialogue of_store speaker n s given (before ++ answer.CommandOutage sequence Device ∷ following) t →
     (done : List (List Byte)) × (left : List (List Byte)) × (made : Stored)
-    × (given ≡ done ++ left) × Dialogue of_store station n s done before made × (t.register ≡ made.register)
+    × (given ≡ done ++ left) × Dialogue of_store speaker n s done before made × (t.register ≡ made.register)
 
 -- without outage words it is a dialogue with the register in memory
 abbrev pub StoredAsRegister : Type 0 → Type 0
-StoredAsRegister A = (station : Station) (n : ℕ) (s t : Stored) (given : List (List Byte)) (answers : List (Answer A)) →
-    Dialogue of_store station n s given answers t → list_any is_outage answers ≡ false →
-    Dialogue of_register station n s.register given answers t.register
+StoredAsRegister A = (speaker : Speaker) (n : ℕ) (s t : Stored) (given : List (List Byte)) (answers : List (Answer A)) →
+    Dialogue of_store speaker n s given answers t → list_any is_outage answers ≡ false →
+    Dialogue of_register speaker n s.register given answers t.register

@@ -4,9 +4,11 @@ ghost use Rattle.listings.specs.Parts.{answer_room};
 
 use crate::answer_text::put_answer;
 use crate::line::LineFault;
+use crate::mark::Mark;
 use centre_core::{QueryAnswer, Reply, Sequence};
 use desk::Outage;
 use identity::put_whole;
+use registration::Station;
 use std::alloc::{AllocError, Allocator};
 use std::marker::Model;
 
@@ -57,6 +59,12 @@ pub enum Answer<B: Allocator> {
     Listed(Lines<B>),
     /// The query or listing in the line of this number was not answered.
     QueryOutage(u64, Outage),
+    /// The mark, as it was written in the line.
+    Marked(Mark),
+    /// The station whose line it is.
+    OwnStation(Station),
+    /// The command of this sequence is an order, and the station may give none: nothing was done.
+    Forbidden(Sequence),
 }
 
 impl<B: Allocator> Answer<B> {

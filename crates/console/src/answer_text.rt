@@ -14,11 +14,12 @@ ghost use Rattle.console.specs.Answer.{IsOneLine, IsLine};
 
 use crate::answer::Answer;
 use crate::lists::{put_count, put_groups, put_items, put_members};
+use crate::mark::Mark;
 use crate::words::{group_word, line_word, mail_word, mm_word, registration_word, sds_word};
 use centre_core::{QueryAnswer, Refusal, Reply, Sequence};
 use identity::{Bits, Itsi, Prefix, print_bits, print_itsi, print_number};
 use listings::{Part, put_parts};
-use registration::{Radio, Rule};
+use registration::{Radio, Rule, Station};
 use std::alloc::{AllocError, Allocator};
 
 #[inline(always)]
@@ -40,7 +41,54 @@ pub(crate) fn put_answer<A: Allocator, B: Allocator>(
         Answer::Queried(query_answer) => put_query_answer(out, query_answer),
         Answer::Listed(lines) => out.extend_from_slice(lines.as_slice()),
         Answer::QueryOutage(line, word) => put_of_line(out, *line, " no ", word.word()),
+        Answer::Marked(mark) => put_mark(out, mark),
+        Answer::OwnStation(station) => put_station(out, *station),
+        Answer::Forbidden(sequence) => put_refused(out, *sequence, "forbidden"),
     }
+}
+
+/// `mark WORD`
+#[tactic(auto, using(crate::proofs::Fits::mark_fits))]
+fn put_mark<A: Allocator>(out: &mut Vec<u8, A>, mark: &Mark) -> Result<(), AllocError>
+    ensures ok { OnOk result (out.new.items ≡ out.old.items ++ codes "mark " ++ mark.now ++ codes "\n") }
+    ensures err { OnErr result (IsPrefixOf out.old.items out.new.items) }
+    ensures full { OnErr result (vec_capacity out.old < vec_len out.old + length (codes "mark " ++ mark.now ++ codes "\n")) }
+    ensures capacity { vec_capacity out.old ≤ vec_capacity out.new }
+    ensures line { OnErr result (vec_capacity out.old < vec_len out.old + answer_room) }
+{
+    put_mark_text(out, mark.as_slice())
+}
+
+/// The text of `put_mark`.
+#[inline(always)]
+#[tactic(auto, using(identity::proofs::Printed::printed))]
+fn put_mark_text<A: Allocator>(out: &mut Vec<u8, A>, word: &[u8]) -> Result<(), AllocError>
+    ensures ok { OnOk result (out.new.items ≡ out.old.items ++ codes "mark " ++ word.now ++ codes "\n") }
+    ensures err { OnErr result (IsPrefixOf out.old.items out.new.items) }
+    ensures full { OnErr result (vec_capacity out.old < vec_len out.old + length (codes "mark " ++ word.now ++ codes "\n")) }
+    ensures capacity { vec_capacity out.old ≤ vec_capacity out.new }
+{
+    out.extend_from_slice(b"mark ")?;
+    out.extend_from_slice(word)?;
+    out.push(b'\n')?;
+    Ok(())
+}
+
+/// `station STATION`
+#[tactic(auto, using(std::proofs::Common::append_assoc))]
+fn put_station<A: Allocator>(out: &mut Vec<u8, A>, station: Station) -> Result<(), AllocError>
+    ensures ok { OnOk result (out.new.items ≡ out.old.items ++ codes "station " ++ decimal station ++ codes "\n") }
+    ensures err { OnErr result (IsPrefixOf out.old.items out.new.items) }
+    ensures full { OnErr result (vec_capacity out.old < vec_len out.old + length (codes "station " ++ decimal station ++ codes "\n")) }
+    ensures capacity { vec_capacity out.old ≤ vec_capacity out.new }
+    ensures line { OnErr result (vec_capacity out.old < vec_len out.old + answer_room) }
+{
+    let line: [Part; 3] = [
+        Part::Text("station "),
+        Part::Number(u64::from(station.number())),
+        Part::Text("\n"),
+    ];
+    put_parts(out, &line)
 }
 
 /// `line N bad WORD` or `line N no WORD`

@@ -1,7 +1,10 @@
 //! The reader of a run, and the ledgers of its calls and faults.
-ghost use Rattle.std.specs.Prelude.{◌≡◌, ◌≤◌, ◌<◌, ◌+◌, List, ℕ, length, IfOk, IfErr, OnErr, Some};
-ghost use Rattle.console.specs.Inside.Feed.{FitsPiece, IsPiece};
+ghost use Rattle.std.specs.Prelude.{◌≡◌, ◌≤◌, ◌<◌, ◌+◌, ◌++◌, ◌∷◌, [], List, ℕ, length, IfOk, IfErr, OnErr, Some};
+ghost use Rattle.console.specs.Events.{Read};
+ghost use Rattle.console.specs.Inside.Feed.{FitsPiece, IsPiece, read_in};
+ghost use Rattle.console.specs.Told.{all_read};
 
+use crate::events::{Events, Note};
 use crate::running::{Piece, RunFault};
 use prefix_tree::Steps;
 use std::io::{ErrorKind, Read};
@@ -14,6 +17,8 @@ pub struct Input<'r, 's, R: Read, L: Ledger, F: Ledger> {
     reader: &'r mut R,
     steps: &'s mut Steps<L>,
     faults: &'s mut Steps<F>,
+    // The bytes that the reader gave. Only contracts read them.
+    events: Events,
 }
 
 impl<'r, 's, R: Read, L: Ledger, F: Ledger> Input<'r, 's, R, L, F> {
@@ -25,12 +30,26 @@ impl<'r, 's, R: Read, L: Ledger, F: Ledger> Input<'r, 's, R, L, F> {
         ensures reader_is { result.reader.now ≡ reader.old }
         ensures steps_is { result.steps.now ≡ steps.old }
         ensures faults_is { result.faults.now ≡ faults.old }
+        ensures events { all_read result ≡ [] }
     {
         Input {
             reader,
             steps,
             faults,
+            events: Events::new(),
         }
+    }
+
+    /// Notes that the reader gave these bytes.
+    #[inline(always)]
+    fn gave(&mut self, bytes: &[u8])
+        ensures reader { self.new.reader.ghost_name ≡ self.old.reader.ghost_name }
+        ensures steps { self.new.steps.ghost_name ≡ self.old.steps.ghost_name }
+        ensures faults { self.new.faults.ghost_name ≡ self.old.faults.ghost_name }
+        ensures events { self.new.events.list ≡ self.old.events.list ++ Read bytes.now ∷ [] }
+        ensures same { (self.new.reader.now ≡ self.old.reader.now) × (self.new.steps.now ≡ self.old.steps.now) × (self.new.faults.now ≡ self.old.faults.now) }
+    {
+        self.events = self.events.then(&Note::Read(bytes));
     }
 
     /// Calls the reader once.
@@ -42,6 +61,8 @@ impl<'r, 's, R: Read, L: Ledger, F: Ledger> Input<'r, 's, R, L, F> {
         ensures bound { IfOk result (λ piece. FitsPiece piece (length buffer.new)) }
         ensures ok { IfOk result (λ piece. (input : List ℕ) → R.remaining self.old.reader.now ≡ Some input
             → IsPiece piece buffer.new input (R.remaining self.new.reader.now)) }
+        ensures events { IfOk result (λ piece. self.new.events.list ≡ self.old.events.list ++ Read (read_in piece buffer.new) ∷ []) }
+        ensures silent { OnErr result (self.new.events.list ≡ self.old.events.list) }
         ensures calls { self.new.steps.now ≡ self.old.steps.now + 1 }
         ensures ledger { self.old.faults.now ≤ self.new.faults.now }
         ensures failed { OnErr result (self.old.faults.now < self.new.faults.now) }
@@ -49,10 +70,17 @@ impl<'r, 's, R: Read, L: Ledger, F: Ledger> Input<'r, 's, R, L, F> {
     {
         self.steps.tick();
         match self.reader.read(buffer) {
-            Ok(0) => Ok(Piece::End),
-            Ok(n) => Ok(Piece::Bytes(n)),
+            Ok(0) => {
+                self.gave(&buffer[..0]);
+                Ok(Piece::End)
+            }
+            Ok(n) => {
+                self.gave(&buffer[..n]);
+                Ok(Piece::Bytes(n))
+            }
             Err(e) => {
                 if e.kind() == ErrorKind::Interrupted {
+                    self.gave(&buffer[..0]);
                     Ok(Piece::Bytes(0))
                 } else {
                     self.faults.tick();

@@ -2,7 +2,8 @@
 //! commands and replies; nothing depends on it.
 
 ghost use Rattle.console.specs.Dialogue.{CutOffIsPrefix, OneText};
-ghost use Rattle.console.specs.Spelling.{OnlyCommands, OnlyQueries, OnlyListings, AllCommands, AllQueries, AllListings, BadLines};
+ghost use Rattle.console.specs.Spelling.{OnlyCommands, OnlyQueries, OnlyListings, OnlyMarks, OnlyOwnStation, NothingForbidden};
+ghost use Rattle.console.specs.Spelling.{AllCommands, AllQueries, AllListings, AllMarks, AllOwnStation, BadLines, MarkCompletesNoCommand};
 ghost use Rattle.desk.specs.OfRegister.{of_register};
 ghost use Rattle.desk.specs.OfStore.{of_store};
 ghost use Rattle.console.specs.Stored.{BrokenAfterDevice, RegisterAtDevice, StoredAsRegister};
@@ -36,21 +37,32 @@ pub fn stored_as_register<A: Allocator>()
     ensures { StoredAsRegister A }
 {}
 
-/// A line is read as a command, a query or a listing only if it spells that, with values in range.
+/// A line is read as a command, a query, a listing or a mark only if it spells that, with values in range. Only one line is
+/// read as the question which station this is, and only that station is the answer.
 pub fn only_what_is_spelled<A: Allocator>()
     ensures commands { OnlyCommands A }
     ensures queries { OnlyQueries A }
     ensures listings { OnlyListings A }
+    ensures marks { OnlyMarks A }
+    ensures station { OnlyOwnStation A }
+    ensures forbidden { NothingForbidden A }
 {}
 
-/// A line that spells a command, a query or a listing is read as that.
+/// A line that spells a command, a query, a listing or a mark, or asks which station this is, is read as that.
 pub fn all_that_is_spelled<A: Allocator>()
     ensures commands { AllCommands A }
     ensures queries { AllQueries A }
     ensures listings { AllListings A }
+    ensures marks { AllMarks A }
+    ensures station { AllOwnStation A }
 {}
 
 /// Which lines are too long, which have no form (`syntax`), and which have a form but spell nothing (`value`).
 pub fn bad_lines<A: Allocator>()
     ensures { BadLines A }
+{}
+
+/// A mark that follows a line that was cut completes no command.
+pub fn mark_completes_no_command<A: Allocator>()
+    ensures { MarkCompletesNoCommand A }
 {}

@@ -1,8 +1,9 @@
 ghost use Rattle.std.specs.Prelude.{◌≡◌, ◌∷◌, [], Some, Ok, IfOk, IfErr, OnErr, IsSome, option_map, MatchOption, ◌<◌, ◌≤◌, length, map, take, slice_get};
 ghost use Rattle.centre_core.specs.Ranges.{IsShort, pdu_of};
-ghost use Rattle.console.specs.Reading.{reading, sequence_of, Lacks, words, words_after, of_words, of_word, of_two, body_in, command_line, ask, print};
+ghost use Rattle.console.specs.Reading.{reading, sequence_of, Lacks, words, words_after, of_words, of_word, of_two, body_in, command_line, ask, marked, print};
 
 use crate::body::{Head, head_in, key_body, listing_in, plain_body, query_in, three_body};
+use crate::mark::Mark;
 use crate::marked::read_marked;
 use crate::spaces::whole;
 use centre_core::{Body, Command, Query, Sequence};
@@ -38,6 +39,12 @@ pub enum Line<A: Allocator> {
     Ask(Query),
     /// A listing.
     Print(Listing),
+    /// A mark, which is answered by itself.
+    Mark(Mark),
+    /// The question which station this is, and that station.
+    OwnStation(Station),
+    /// An order of this sequence, by a station that may give none. [`parse_line`] never returns it.
+    Forbidden(Sequence),
 }
 
 /// Memory ran out for the PDU of the command of this sequence.
@@ -159,7 +166,7 @@ fn read_words<A: Allocator>(alloc: A, station: Station, words: &[&[u8]]) -> Resu
 {
     match words {
         [] => Ok(Line::Bad(LineFault::Syntax)),
-        [name] => Ok(read_one(name)),
+        [name] => Ok(read_one(station, name)),
         [name, word] => Ok(read_two(name, word)),
         [sequence, moment, name, more @ ..] => {
             read_command(alloc, station, head_in(sequence, moment), name, more)
@@ -167,8 +174,8 @@ fn read_words<A: Allocator>(alloc: A, station: Station, words: &[&[u8]]) -> Resu
     }
 }
 
-pub(crate) fn read_one<A: Allocator>(name: &[u8]) -> Line<A>
-    ensures { result ≡ of_word name.now }
+pub(crate) fn read_one<A: Allocator>(station: Station, name: &[u8]) -> Line<A>
+    ensures { result ≡ of_word station name.now }
 {
     if name == b"count".as_slice() {
         Line::Ask(Query::Total)
@@ -180,6 +187,8 @@ pub(crate) fn read_one<A: Allocator>(name: &[u8]) -> Line<A>
         Line::Print(Listing::Entries(Table::Items))
     } else if name == b"room".as_slice() {
         Line::Print(Listing::Room)
+    } else if name == b"station".as_slice() {
+        Line::OwnStation(station)
     } else {
         Line::Bad(LineFault::Syntax)
     }
@@ -188,9 +197,21 @@ pub(crate) fn read_one<A: Allocator>(name: &[u8]) -> Line<A>
 pub(crate) fn read_two<A: Allocator>(name: &[u8], word: &[u8]) -> Line<A>
     ensures { result ≡ of_two name.now word.now }
 {
+    if name == b"mark".as_slice() {
+        return marked(Mark::new(word));
+    }
     match listing_in(name, word) {
         Some(listing) => print(listing),
         None => ask(query_in(name, word)),
+    }
+}
+
+fn marked<A: Allocator>(mark: Option<Mark>) -> Line<A>
+    ensures { result ≡ marked mark }
+{
+    match mark {
+        Some(mark) => Line::Mark(mark),
+        None => Line::Bad(LineFault::Value),
     }
 }
 

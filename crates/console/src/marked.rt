@@ -41,7 +41,7 @@ pub(crate) fn read_marked<A: Allocator>(
 {
     let (first, rest) = next_word(rest);
     let Some(rest) = rest else {
-        return Ok(read_one(first));
+        return Ok(read_one(station, first));
     };
     let (second, rest) = next_word(rest);
     let Some(rest) = rest else {

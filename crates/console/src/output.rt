@@ -1,7 +1,11 @@
 //! The writer of a run, and the ledger of its failures.
-ghost use Rattle.std.specs.Prelude.{◌≡◌, ◌≤◌, ◌<◌, ◌+◌, ◌++◌, List, ℕ, length, take, IfOk, IfErr, OnOk, OnErr, Some};
+ghost use Rattle.std.specs.Prelude.{◌≡◌, ◌≤◌, ◌<◌, ◌+◌, ◌++◌, ◌∷◌, [], List, ℕ, length, take, IfOk, IfErr, OnOk, OnErr, Some};
+ghost use Rattle.console.specs.Events.{Answered, Wrote};
 ghost use Rattle.console.specs.Failures.{failures_reported};
+ghost use Rattle.console.specs.Inside.Passing.{Passes, sent_by};
+ghost use Rattle.console.specs.Told.{events_of};
 
+use crate::events::{Events, Note};
 use crate::running::RunFault;
 use prefix_tree::Steps;
 use std::io::{ErrorKind, Write};
@@ -14,6 +18,8 @@ use std::sync::ledger::Ledger;
 pub struct Output<'w, 'f, W: Write, G: Ledger> {
     writer: &'w mut W,
     failures: &'f mut Steps<G>,
+    // The answers that were given, and the bytes that the writer took. Only contracts read them.
+    events: Events,
 }
 
 impl<'w, 'f, W: Write, G: Ledger> Output<'w, 'f, W, G> {
@@ -23,8 +29,35 @@ impl<'w, 'f, W: Write, G: Ledger> Output<'w, 'f, W, G> {
         ensures failures { result.failures.ghost_name ≡ failures.entry.ghost_name }
         ensures writer_is { result.writer.now ≡ writer.old }
         ensures failures_is { result.failures.now ≡ failures.old }
+        ensures events { events_of result ≡ [] }
     {
-        Output { writer, failures }
+        Output {
+            writer,
+            failures,
+            events: Events::new(),
+        }
+    }
+
+    /// Notes that an answer is given, with this text.
+    #[inline(always)]
+    pub(crate) fn answered(&mut self, text: &[u8])
+        ensures writer { self.new.writer.ghost_name ≡ self.old.writer.ghost_name }
+        ensures failures { self.new.failures.ghost_name ≡ self.old.failures.ghost_name }
+        ensures events { self.new.events.list ≡ self.old.events.list ++ Answered text.now ∷ [] }
+        ensures same { (self.new.writer.now ≡ self.old.writer.now) × (self.new.failures.now ≡ self.old.failures.now) }
+    {
+        self.events = self.events.then(&Note::Answered(text));
+    }
+
+    /// Notes that the writer took these bytes.
+    #[inline(always)]
+    fn wrote(&mut self, bytes: &[u8])
+        ensures writer { self.new.writer.ghost_name ≡ self.old.writer.ghost_name }
+        ensures failures { self.new.failures.ghost_name ≡ self.old.failures.ghost_name }
+        ensures events { self.new.events.list ≡ self.old.events.list ++ Wrote bytes.now ∷ [] }
+        ensures same { (self.new.writer.now ≡ self.old.writer.now) × (self.new.failures.now ≡ self.old.failures.now) }
+    {
+        self.events = self.events.then(&Note::Wrote(bytes));
     }
 
     /// Writes some of the bytes; none if the call was interrupted, which may happen `patience` times.
@@ -35,13 +68,19 @@ impl<'w, 'f, W: Write, G: Ledger> Output<'w, 'f, W, G> {
         ensures ok { IfOk result (λ n. (before : List ℕ) → W.contents self.old.writer.now ≡ Some before
             → W.contents self.new.writer.now ≡ Some (before ++ take n bytes.now)) }
         ensures err { OnErr result ((before : List ℕ) → W.contents self.old.writer.now ≡ Some before → W.contents self.new.writer.now ≡ Some before) }
+        ensures events { IfOk result (λ n. self.new.events.list ≡ self.old.events.list ++ Wrote (take n bytes.now) ∷ []) }
+        ensures silent { OnErr result (self.new.events.list ≡ self.old.events.list) }
         ensures goes_on { IfOk result (λ n. patience.new < patience.old + n) }
         ensures ledger { self.new.failures.now ≡ self.old.failures.now + failures_reported result }
         ensures plain { IfErr result (λ e. e ≡ RunFault.Write) }
     {
         match self.writer.write(bytes) {
-            Ok(n) if n > 0 => return Ok(n),
+            Ok(n) if n > 0 => {
+                self.wrote(&bytes[..n]);
+                return Ok(n);
+            }
             Err(e) if e.kind() == ErrorKind::Interrupted && *patience > 0 => {
+                self.wrote(&bytes[..0]);
                 *patience -= 1;
                 return Ok(0);
             }
@@ -56,6 +95,7 @@ impl<'w, 'f, W: Write, G: Ledger> Output<'w, 'f, W, G> {
         ensures writer { self.new.writer.ghost_name ≡ self.old.writer.ghost_name }
         ensures failures { self.new.failures.ghost_name ≡ self.old.failures.ghost_name }
         ensures keeps { (before : List ℕ) → W.contents self.old.writer.now ≡ Some before → W.contents self.new.writer.now ≡ Some before }
+        ensures silent { self.new.events.list ≡ self.old.events.list }
         ensures ledger { self.new.failures.now ≡ self.old.failures.now + failures_reported result }
         ensures plain { IfErr result (λ e. e ≡ RunFault.Write) }
     {
@@ -73,10 +113,8 @@ impl<'w, 'f, W: Write, G: Ledger> Output<'w, 'f, W, G> {
     pub(crate) fn send(&mut self, bytes: &[u8]) -> Result<(), RunFault>
         ensures writer { self.new.writer.ghost_name ≡ self.old.writer.ghost_name }
         ensures failures { self.new.failures.ghost_name ≡ self.old.failures.ghost_name }
-        ensures ok { OnOk result ((before : List ℕ) → W.contents self.old.writer.now ≡ Some before →
-            W.contents self.new.writer.now ≡ Some (before ++ bytes.now)) }
-        ensures err { OnErr result ((before : List ℕ) → W.contents self.old.writer.now ≡ Some before →
-            (part : List ℕ) × (missing : List ℕ) × (bytes.now ≡ part ++ missing) × (W.contents self.new.writer.now ≡ Some (before ++ part))) }
+        ensures ok { OnOk result (Passes (sent_by W.contents self.old) (sent_by W.contents self.new) bytes.now [] []) }
+        ensures err { OnErr result ((left : List ℕ) × Passes (sent_by W.contents self.old) (sent_by W.contents self.new) bytes.now [] left) }
         ensures ledger { self.new.failures.now ≡ self.old.failures.now + failures_reported result }
         ensures plain { IfErr result (λ e. e ≡ RunFault.Write) }
     {

@@ -1,7 +1,9 @@
 //! Reading a text in pieces, to its end.
-ghost use Rattle.std.specs.Prelude.{◌≡◌, ◌⊎◌, IsErrOf, ◌≤◌, ◌<◌, ◌+◌};
+ghost use Rattle.std.specs.Prelude.{◌≡◌, ◌⊎◌, IsErrOf, List, ℕ, ◌≤◌, ◌<◌, ◌+◌, ◌++◌, true};
+ghost use Rattle.console.specs.Events.{Event};
 ghost use Rattle.console.specs.Failures.{failures_reported};
-ghost use Rattle.console.specs.Runs.{IsRun};
+ghost use Rattle.console.specs.Runs.{IsRun, speaker_of};
+ghost use Rattle.console.specs.Told.{IsTold, all_read, events_of};
 
 use crate::input::Input;
 use crate::output::Output;
@@ -55,6 +57,8 @@ pub struct Terms<A: Allocator + Copy> {
     pub alloc: A,
     /// The station whose lines are read.
     pub station: Station,
+    /// Whether it may give orders: `rule`, `unrule`, `delete` and `expire`.
+    pub orders: bool,
     /// The most calls of the reader.
     pub turns: u32,
 }
@@ -76,8 +80,12 @@ pub fn run_counted<
     desk: &mut D,
 ) -> Result<Ran, RunFault>
     ensures answers { IsRun A D.rules
-        (record { station = terms.station; world = D.world desk.old; unread = R.remaining input.old.reader.now; written = W.contents output.old.writer.now })
+        (record { speaker = speaker_of terms; world = D.world desk.old; unread = R.remaining input.old.reader.now; written = W.contents output.old.writer.now })
         (record { result = result; world = D.world desk.new; written = W.contents output.new.writer.now }) }
+    // Over any reader and any writer: what was read, and what was written after it was answered.
+    ensures told { (given : List ℕ) × (events : List Event)
+        × (all_read input.new ≡ all_read input.old ++ given) × (events_of output.new ≡ events_of output.old ++ events)
+        × IsTold A D.rules (speaker_of terms) (D.world desk.old) (D.world desk.new) given events result }
     // How often the reader is called, and what each fault means.
     ensures calls { input.new.steps.now ≤ input.old.steps.now + terms.turns }
     ensures read { IsErrOf result RunFault.Read → (input.new.steps.now ≡ input.old.steps.now + terms.turns) ⊎ (input.old.faults.now < input.new.faults.now) }
@@ -134,7 +142,7 @@ fn run_in<
     requires failures_parts { blanks.failures.parts ≡ G.parts }
     requires failures_some { 0 < blanks.failures.parts }
     ensures answers { IsRun A D.rules
-        (record { station = terms.station; world = D.world desk.old; unread = R.remaining reader.old; written = W.contents writer.old })
+        (record { speaker = speaker_of terms; world = D.world desk.old; unread = R.remaining reader.old; written = W.contents writer.old })
         (record { result = result; world = D.world desk.new; written = W.contents writer.new }) }
 {
     let Blanks {
@@ -152,6 +160,25 @@ fn run_in<
 
 /// Answers all lines of the reader, or the first of them if it ends early, and writes nothing else. It does so by
 /// [`run_counted`], a clause of which states that the reader is called at most `turns` times.
+pub fn run_under<A: Allocator + Copy + Drop, R: Read, W: Write, D: Desk<A>>(
+    terms: Terms<A>,
+    reader: &mut R,
+    writer: &mut W,
+    desk: &mut D,
+) -> Result<Ran, RunFault>
+    ensures answers { IsRun A D.rules
+        (record { speaker = speaker_of terms; world = D.world desk.old; unread = R.remaining reader.old; written = W.contents writer.old })
+        (record { result = result; world = D.world desk.new; written = W.contents writer.new }) }
+{
+    let blanks = Blanks {
+        steps: Blank::new(1),
+        faults: Blank::new(1),
+        failures: Blank::new(1),
+    };
+    run_in::<Brand, Brand, Brand, A, R, W, D>(blanks, terms, reader, writer, desk)
+}
+
+/// As [`run_under`], where the station may give orders.
 pub fn run<A: Allocator + Copy + Drop, R: Read, W: Write, D: Desk<A>>(
     alloc: A,
     reader: &mut R,
@@ -161,18 +188,14 @@ pub fn run<A: Allocator + Copy + Drop, R: Read, W: Write, D: Desk<A>>(
     desk: &mut D,
 ) -> Result<Ran, RunFault>
     ensures answers { IsRun A D.rules
-        (record { station = station; world = D.world desk.old; unread = R.remaining reader.old; written = W.contents writer.old })
+        (record { speaker = record { station = station; orders = true }; world = D.world desk.old; unread = R.remaining reader.old; written = W.contents writer.old })
         (record { result = result; world = D.world desk.new; written = W.contents writer.new }) }
 {
-    let blanks = Blanks {
-        steps: Blank::new(1),
-        faults: Blank::new(1),
-        failures: Blank::new(1),
-    };
     let terms = Terms {
         alloc,
         station,
+        orders: true,
         turns,
     };
-    run_in::<Brand, Brand, Brand, A, R, W, D>(blanks, terms, reader, writer, desk)
+    run_under(terms, reader, writer, desk)
 }

@@ -3,17 +3,21 @@ ghost use Rattle.std.specs.Prelude.{◌≡◌, ◌⊎◌, ◌≤◌, ◌<◌, �
 ghost use Rattle.std.specs.Prelude.{MatchOption, option_map, IfErr, IfOk, IsErrOf, IsTrue, OnOk, OnErr, Some};
 ghost use Rattle.console.specs.Inside.Given.{MayBePrinted, answer_of};
 ghost use Rattle.console.specs.Inside.Feed.{GoesOnAtLine, GoesOnIn, StopsAtLine, StopsIn};
-ghost use Rattle.console.specs.Inside.Feed.{Sends, SendsPrefix, GoesOn, StopsWithin, EndsSo, IsSameRun, reached_by, start_at, outcome_at};
+ghost use Rattle.console.specs.Inside.Feed.{Sends, SendsPart, GoesOn, StopsWithin, EndsSo, IsSameRun, reached_by, start_at, outcome_at};
+ghost use Rattle.console.specs.Inside.Passing.{sent_by};
 ghost use Rattle.console.specs.Failures.{failures_reported};
 ghost use Rattle.console.specs.Inside.Current.{HasNoEnd, Holds, KeepsLine};
-ghost use Rattle.console.specs.Runs.{IsRun};
+ghost use Rattle.console.specs.Events.{Event};
+ghost use Rattle.console.specs.Runs.{IsRun, speaker_of};
+ghost use Rattle.console.specs.Told.{IsTold, all_read, events_of};
 ghost use Rattle.console.specs.Dialogue.{Answers};
 ghost use Rattle.console.specs.declared.answer.Answer.{Answer};
 
 use crate::answer::Answer;
 use crate::ends::next_end;
+use crate::hearing::hear_line;
 use crate::input::Input;
-use crate::line::{Line, LineFault, read_line};
+use crate::line::{Line, LineFault};
 use crate::output::Output;
 use crate::progress::{AnswerText, Given, Progress};
 use crate::running::{Piece, Ran, RunFault, Terms};
@@ -41,13 +45,13 @@ fn answer_line<A: Allocator + Copy, D: Desk<A>>(
     text: &mut AnswerText<A>,
 ) -> Given<A>
     ensures answers { (whole : List ℕ) → KeepsLine (option_map (λ l. l.now) asked.entry.line) whole
-        → Answers D.rules terms.now.station asked.entry.number (D.world desk.old) whole (answer_of text.new.bytes.items result) (D.world desk.new) }
+        → Answers D.rules (speaker_of terms.now) asked.entry.number (D.world desk.old) whole (answer_of text.new.bytes.items result) (D.world desk.new) }
     ensures printable { MayBePrinted result }
 {
     let Some(line) = asked.line else {
         return Given::Answered(Answer::Bad(asked.number, LineFault::TooLong));
     };
-    let said = read_line(terms.alloc, terms.station, line);
+    let said = hear_line(terms, line);
     match &said {
         Ok(Line::Silent) => Given::Answered(Answer::Quiet),
         Ok(Line::Bad(fault)) => Given::Answered(Answer::Bad(asked.number, *fault)),
@@ -63,6 +67,9 @@ fn answer_line<A: Allocator + Copy, D: Desk<A>>(
             Ok(()) => Given::Listed,
             Err(word) => Given::Answered(Answer::QueryOutage(asked.number, word)),
         },
+        Ok(Line::Mark(mark)) => Given::Answered(Answer::Marked(*mark)),
+        Ok(Line::OwnStation(station)) => Given::Answered(Answer::OwnStation(*station)),
+        Ok(Line::Forbidden(sequence)) => Given::Answered(Answer::Forbidden(*sequence)),
         Err(unread) => Given::Answered(Answer::CommandOutage(unread.sequence, Outage::Memory)),
     }
 }
@@ -76,10 +83,10 @@ fn send_answer<A: Allocator + Copy + Drop, W: Write, G: Ledger>(
 ) -> Result<(), RunFault>
     requires room { progress.old.lines + 1 < 2 ^ 64 }
     requires printable { MayBePrinted given.now }
-    ensures ok { OnOk result (Sends progress.old (W.contents output.old.writer.now) (answer_of progress.old.out.bytes.items given.now)
-        progress.new (W.contents output.new.writer.now)) }
-    ensures err { OnErr result (SendsPrefix progress.old.lines (W.contents output.old.writer.now) (answer_of progress.old.out.bytes.items given.now)
-        (W.contents output.new.writer.now)) }
+    ensures ok { OnOk result (Sends progress.old (sent_by W.contents output.old) (answer_of progress.old.out.bytes.items given.now)
+        progress.new (sent_by W.contents output.new)) }
+    ensures err { OnErr result (SendsPart progress.old.lines (sent_by W.contents output.old) (answer_of progress.old.out.bytes.items given.now)
+        (sent_by W.contents output.new)) }
     ensures lines { progress.new.lines ≤ progress.old.lines + 1 }
     ensures stops { IfErr result (λ e. e ≡ RunFault.Write) }
     ensures writer { output.new.writer.ghost_name ≡ output.old.writer.ghost_name }
@@ -88,6 +95,7 @@ fn send_answer<A: Allocator + Copy + Drop, W: Write, G: Ledger>(
 {
     let number = progress.lines + 1;
     let troubled = progress.out.hold(number, given);
+    output.answered(progress.out.as_slice());
     output.send(progress.out.as_slice())?;
     progress.lines = number;
     progress.troubled = progress.troubled | troubled;
@@ -165,9 +173,7 @@ impl<'t, 'p, 'o, 'd, 'w, 'f, A: Allocator + Copy + Drop, W: Write, G: Ledger, D:
     {
         let most = self.desk.most_together();
         let progress = &mut *self.progress;
-        let taken = progress
-            .together
-            .collect(self.terms.alloc, self.terms.station, text, most);
+        let taken = progress.together.collect(self.terms, text, most);
         let count = progress.together.commands.len() as u64;
         if count == 0 {
             return Ok(0);
@@ -240,7 +246,7 @@ impl<'t, 'p, 'o, 'd, 'w, 'f, A: Allocator + Copy + Drop, W: Write, G: Ledger, D:
     /// Answers the last line, if the text doesn't end in a line feed.
     fn finish(&mut self) -> Result<Ran, RunFault>
         requires { self.old.progress.now.lines + 1 < 2 ^ 64 }
-        ensures ends { EndsSo D.rules (reached_by D.world W.contents self.old) (outcome_at (reached_by D.world W.contents self.new) result) }
+        ensures ends { EndsSo D.rules (reached_by D.world W.contents self.old) (reached_by D.world W.contents self.new) result }
         ensures stops { IfErr result (λ e. e ≡ RunFault.Write) }
         ensures same { IsSameRun self.old self.new }
         ensures ledger { self.new.output.now.failures.now ≡ self.old.output.now.failures.now + failures_reported result }
@@ -265,6 +271,9 @@ impl<'t, 'p, 'o, 'd, 'w, 'f, A: Allocator + Copy + Drop, W: Write, G: Ledger, D:
     ) -> Result<Ran, RunFault>
         ensures answers { IsRun A D.rules (start_at (reached_by D.world W.contents self.old) (R.remaining input.old.reader.now))
             (outcome_at (reached_by D.world W.contents self.new) result) }
+        ensures told { (given : List ℕ) × (events : List Event)
+            × (all_read input.new ≡ all_read input.old ++ given) × (events_of self.new.output.now ≡ events_of self.old.output.now ++ events)
+            × IsTold A D.rules (speaker_of self.old.terms.now) (D.world self.old.desk.now) (D.world self.new.desk.now) given events result }
         ensures calls { input.new.steps.now ≤ input.old.steps.now + self.old.terms.now.turns }
         ensures read { IsErrOf result RunFault.Read
             → (input.new.steps.now ≡ input.old.steps.now + self.old.terms.now.turns) ⊎ (input.old.faults.now < input.new.faults.now) }

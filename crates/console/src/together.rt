@@ -6,19 +6,21 @@ ghost use Rattle.desk.specs.Rules.{AreApplied};
 ghost use Rattle.listings.specs.Parts.{answer_room};
 ghost use Rattle.console.specs.Answer.{is_trouble, text, texts};
 ghost use Rattle.console.specs.Failures.{failures_reported};
-ghost use Rattle.console.specs.Reading.{reading};
+ghost use Rattle.console.specs.Reading.{heard};
+ghost use Rattle.console.specs.Runs.{speaker_of};
 ghost use Rattle.console.specs.declared.line.Line.TheVariants.{Apply};
-ghost use Rattle.console.specs.Inside.Together.{AreLines, HasSent, HasSentPart, answer_for, answers_for};
+ghost use Rattle.console.specs.Inside.Passing.{Passes, PassesPart, sent_by};
+ghost use Rattle.console.specs.Inside.Together.{AreLines, answer_for, answers_for};
 
 use crate::answer_text::{put_refused, put_reply};
 use crate::ends::next_end;
-use crate::line::{Line, read_line};
+use crate::hearing::hear_line;
+use crate::line::Line;
 use crate::output::Output;
 use crate::progress::without_return;
-use crate::running::RunFault;
+use crate::running::{RunFault, Terms};
 use centre_core::{Command, Reply};
 use desk::{Desk, MOST_TOGETHER, Outage};
-use registration::Station;
 use std::alloc::{AllocError, Allocator};
 use std::io::Write;
 use std::sync::ledger::Ledger;
@@ -64,15 +66,37 @@ fn put_result<A: Allocator, B: Allocator>(
     }
 }
 
+/// Adds the answer to a command to the page, notes that it is given, and returns whether it is trouble.
+#[inline(always)]
+fn give_result<A: Allocator, B: Allocator, W: Write, G: Ledger>(
+    page: &mut Vec<u8, A>,
+    command: &Command<B>,
+    reply: &Result<Reply<B>, Outage>,
+    output: &mut Output<W, G>,
+) -> bool
+    requires room { vec_len page.old + answer_room ≤ vec_capacity page.old }
+    requires short { IfOk reply.now HasShortPdu }
+    ensures told { Passes (sent_by W.contents output.old) (sent_by W.contents output.new) page.old.items (text (answer_for command.now reply.now)) page.new.items }
+    ensures trouble { result ≡ is_trouble (answer_for command.now reply.now) }
+    ensures capacity { vec_capacity page.old ≤ vec_capacity page.new }
+    ensures writer { output.new.writer.ghost_name ≡ output.old.writer.ghost_name }
+    ensures failures { output.new.failures.ghost_name ≡ output.old.failures.ghost_name }
+    ensures ledger { output.new.failures.now ≡ output.old.failures.now }
+{
+    let before = page.len();
+    let troubled = put_result(page, command, reply);
+    output.answered(&page[before..]);
+    troubled
+}
+
 /// Writes the text if it has no room for one more answer.
 fn make_room<A: Allocator, W: Write, G: Ledger>(
     page: &mut Vec<u8, A>,
     output: &mut Output<W, G>,
 ) -> Result<(), RunFault>
     requires page { 8192 ≤ vec_capacity page.old }
-    ensures ok { OnOk result ((done : List ℕ) × (done ++ page.new.items ≡ page.old.items)
-        × HasSent (W.contents output.old.writer.now) done (W.contents output.new.writer.now)) }
-    ensures err { OnErr result (HasSentPart (W.contents output.old.writer.now) page.old.items (W.contents output.new.writer.now)) }
+    ensures ok { OnOk result (Passes (sent_by W.contents output.old) (sent_by W.contents output.new) page.old.items [] page.new.items) }
+    ensures err { OnErr result ((left : List ℕ) × Passes (sent_by W.contents output.old) (sent_by W.contents output.new) page.old.items [] left) }
     ensures room { OnOk result (vec_len page.new + answer_room ≤ vec_capacity page.new) }
     ensures capacity { vec_capacity page.old ≤ vec_capacity page.new }
     ensures stops { IfErr result (λ e. e ≡ RunFault.Write) }
@@ -98,9 +122,9 @@ fn send_all<A: Allocator, B: Allocator, W: Write, G: Ledger>(
     requires page { 8192 ≤ vec_capacity page.old }
     requires each { length replies.now ≡ length commands.now }
     requires short { All (λ reply. IfOk reply HasShortPdu) replies.now }
-    ensures ok { OnOk result (HasSent (W.contents output.old.writer.now) (texts (answers_for commands.now replies.now)) (W.contents output.new.writer.now)) }
+    ensures ok { OnOk result (Passes (sent_by W.contents output.old) (sent_by W.contents output.new) [] (texts (answers_for commands.now replies.now)) []) }
     ensures trouble { IfOk result (λ troubled. troubled ≡ list_any is_trouble (answers_for commands.now replies.now)) }
-    ensures err { OnErr result (HasSentPart (W.contents output.old.writer.now) (texts (answers_for commands.now replies.now)) (W.contents output.new.writer.now)) }
+    ensures err { OnErr result (PassesPart (sent_by W.contents output.old) (sent_by W.contents output.new) (texts (answers_for commands.now replies.now))) }
     ensures capacity { vec_capacity page.old ≤ vec_capacity page.new }
     ensures stops { IfErr result (λ e. e ≡ RunFault.Write) }
     ensures writer { output.new.writer.ghost_name ≡ output.old.writer.ghost_name }
@@ -111,7 +135,7 @@ fn send_all<A: Allocator, B: Allocator, W: Write, G: Ledger>(
     let mut troubled = false;
     for k in 0..commands.len() {
         make_room(page, output)?;
-        troubled |= put_result(page, &commands[k], &replies[k]);
+        troubled |= give_result(page, &commands[k], &replies[k], output);
     }
     output.send(page.as_slice())?;
     Ok(troubled)
@@ -129,14 +153,14 @@ impl<A: Allocator + Copy> Together<A> {
 }
 
 impl<A: Allocator + Copy + Drop> Together<A> {
-    /// Adds the command that a line asks for, and returns whether it asks for one. Memory may run out for it.
-    fn add(&mut self, alloc: A, station: Station, line: &[u8]) -> bool
+    /// Adds the command that a line asks for, and returns whether it asks for one that is not forbidden. Memory may run out for it.
+    fn add(&mut self, terms: &Terms<A>, line: &[u8]) -> bool
         requires room { vec_len self.old.commands < vec_capacity self.old.commands }
-        ensures added { MatchBool result ((c : Command A) × (reading station line.now ≡ Apply c) × (self.new.commands.items ≡ self.old.commands.items ++ c ∷ []))
+        ensures added { MatchBool result ((c : Command A) × (heard (speaker_of terms.now) line.now ≡ Apply c) × (self.new.commands.items ≡ self.old.commands.items ++ c ∷ []))
             (self.new.commands.items ≡ self.old.commands.items) }
         ensures capacity { vec_capacity self.new.commands ≡ vec_capacity self.old.commands }
     {
-        match read_line(alloc, station, line) {
+        match hear_line(terms, line) {
             Ok(Line::Apply(command)) => {
                 self.commands.push_reserved(command);
                 true
@@ -147,10 +171,10 @@ impl<A: Allocator + Copy + Drop> Together<A> {
 
     /// Takes whole lines from the beginning of the text, at most so many, as long as each asks for a command. It returns how
     /// many bytes they are.
-    pub(crate) fn collect(&mut self, alloc: A, station: Station, text: &[u8], most: usize) -> usize
+    pub(crate) fn collect(&mut self, terms: &Terms<A>, text: &[u8], most: usize) -> usize
         requires most { most ≤ 64 }
         ensures within { result ≤ length text.now }
-        ensures lines { AreLines station (take result text.now) self.new.commands.items }
+        ensures lines { AreLines (speaker_of terms.now) (take result text.now) self.new.commands.items }
         ensures few { length self.new.commands.items ≤ most }
         ensures room { length self.new.commands.items ≤ 64 }
         ensures many { length self.new.commands.items ≤ result }
@@ -161,7 +185,7 @@ impl<A: Allocator + Copy + Drop> Together<A> {
             let Some(end) = next_end(text, at) else {
                 return at;
             };
-            if !self.add(alloc, station, without_return(&text[at..end])) {
+            if !self.add(terms, without_return(&text[at..end])) {
                 return at;
             }
             at = end + 1;
@@ -179,9 +203,9 @@ impl<A: Allocator + Copy + Drop> Together<A> {
         requires few { length self.old.commands.items ≤ D.most desk.old }
         requires room { length self.old.commands.items ≤ 64 }
         ensures done { (replies : List (Result (Reply A) Outage)) × AreApplied D.rules (D.world desk.old) self.old.commands.items replies (D.world desk.new)
-            × OnOk result (HasSent (W.contents output.old.writer.now) (texts (answers_for self.old.commands.items replies)) (W.contents output.new.writer.now))
+            × OnOk result (Passes (sent_by W.contents output.old) (sent_by W.contents output.new) [] (texts (answers_for self.old.commands.items replies)) [])
             × IfOk result (λ troubled. troubled ≡ list_any is_trouble (answers_for self.old.commands.items replies))
-            × OnErr result (HasSentPart (W.contents output.old.writer.now) (texts (answers_for self.old.commands.items replies)) (W.contents output.new.writer.now)) }
+            × OnErr result (PassesPart (sent_by W.contents output.old) (sent_by W.contents output.new) (texts (answers_for self.old.commands.items replies))) }
         ensures stops { IfErr result (λ e. e ≡ RunFault.Write) }
         ensures writer { output.new.writer.ghost_name ≡ output.old.writer.ghost_name }
         ensures failures { output.new.failures.ghost_name ≡ output.old.failures.ghost_name }

@@ -73,4 +73,6 @@ fn laws_are_stated() {
     laws::stored_as_register::<Global>();
     laws::only_what_is_spelled::<Global>();
     laws::all_that_is_spelled::<Global>();
+    laws::bad_lines::<Global>();
+    laws::mark_completes_no_command::<Global>();
 }

@@ -28,6 +28,8 @@ mod lists;
 #[cfg(test)]
 mod long_runs;
 #[cfg(test)]
+mod marks;
+#[cfg(test)]
 mod parts;
 #[cfg(test)]
 mod same;

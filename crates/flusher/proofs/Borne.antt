@@ -71,10 +71,10 @@ are_to_one base durable low s (x ∷ xs) h = by (x.command.station == s) (are_to
 -- ---- the answers of a round
 
 -- the same decision on all, one that is no reply
-pub alike_borne_out : (base : State) (durable : List G) (low : ℕ) (published : List G) (d : Decision) (cs : List G) → ((l : List G) (c : G) → IsDecisionAfter base l c d) → low ≤ length durable
-    → AreBorneOut base durable low (sent_to_all published d cs)
-alike_borne_out base durable low published d [] any le = tt
-alike_borne_out base durable low published d (c ∷ cs) any le = (low, omega arith, le, any (take low durable) c, alike_borne_out base durable low published d cs any le)
+pub alike_borne_out : (base : State) (durable : List G) (low t : ℕ) (published : List G) (d : Decision) (cs : List G) → ((l : List G) (c : G) → IsDecisionAfter base l c d) → low ≤ length durable
+    → AreBorneOut base durable low (sent_to_all t published d cs)
+alike_borne_out base durable low t published d [] any le = tt
+alike_borne_out base durable low t published d (c ∷ cs) any le = (low, omega arith, le, any (take low durable) c, alike_borne_out base durable low t published d cs any le)
 
 -- an accepted command that is reported as kept is one that is kept
 answer_after : (base : State) (l : List G) (c : G) (all : Bool) (r : Reply Global) → IsReplyAfter base l c r → IsReplyAfter base l c (answer_from all r)
@@ -105,22 +105,22 @@ reply_alone base s l c a at (Kept n p) is says not_it =
 reply_alone base s l c a at (Refused r) is says not_it = subst (λ t. reply_to t c ≡ Refused r) at is
 
 -- what ran out of memory is borne out by anything
-none_borne_out : (base : State) (durable : List G) (low : ℕ) (published : List G) (all : Bool) (cs : List G) (k : ℕ) → low ≤ length durable
-    → AreBorneOut base durable low (sent_by published all cs (replicate k outcome.NoMemory))
-none_borne_out base durable low published all [] k le = tt
-none_borne_out base durable low published all (c ∷ cs) zero le = tt
-none_borne_out base durable low published all (c ∷ cs) (suc k) le = (low, omega arith, le, tt, none_borne_out base durable low published all cs k le)
+none_borne_out : (base : State) (durable : List G) (low t : ℕ) (published : List G) (all : Bool) (cs : List G) (k : ℕ) → low ≤ length durable
+    → AreBorneOut base durable low (sent_by t published all cs (replicate k outcome.NoMemory))
+none_borne_out base durable low t published all [] k le = tt
+none_borne_out base durable low t published all (c ∷ cs) zero le = tt
+none_borne_out base durable low t published all (c ∷ cs) (suc k) le = (low, omega arith, le, tt, none_borne_out base durable low t published all cs k le)
 
 -- what was answered to the first commands, of the rest none found memory
 abbrev pub outcomes_of : State → List G → ℕ → List (Outcome Global)
 outcomes_of s cs k = map outcome.Replied (replies Global s cs) ++ replicate k outcome.NoMemory
 
-module _ (base : State) (total published : List G) (all : Bool) (rest : List G) (k : ℕ) where
+module _ (base : State) (total published : List G) (all : Bool) (rest : List G) (k t : ℕ) where
   -- one command and the answers after it
   step_by : (b : Bool) (s : State) (l : List G) (c : G) (cs : List G) → is_acceptance (reply_to s c) ≡ b
-      → ((l' : List G) → IsHistory base l' → next s c ≡ after base l' → total ≡ l' ++ taken (next s c) cs → AreBorneOut base total (length l') (sent_by published all (cs ++ rest) (outcomes_of (next s c) cs k)))
+      → ((l' : List G) → IsHistory base l' → next s c ≡ after base l' → total ≡ l' ++ taken (next s c) cs → AreBorneOut base total (length l') (sent_by t published all (cs ++ rest) (outcomes_of (next s c) cs k)))
       → IsHistory base l → s ≡ after base l → total ≡ l ++ cond b (c ∷ taken (next s c) cs) (taken (next s c) cs)
-      → AreBorneOut base total (length l) (sent_by published all (c ∷ (cs ++ rest)) (outcome.Replied (reply_to s c) ∷ outcomes_of (next s c) cs k))
+      → AreBorneOut base total (length l) (sent_by t published all (c ∷ (cs ++ rest)) (outcome.Replied (reply_to s c) ∷ outcomes_of (next s c) cs k))
   step_by true s l c cs is more a at split =
       let l' = l ++ c ∷ [] in
       let took : IsHistory base l' = history-append base l (c ∷ []) a (subst (λ t. is_acceptance (reply_to t c) ≡ true) at is, tt) in
@@ -140,9 +140,9 @@ module _ (base : State) (total published : List G) (all : Bool) (rest : List G) 
       (length l, omega arith, omega arith, subst (λ t. IsReplyAfter base t c (answer_from all (reply_to s c))) (sym first) here, more l a goes parts)
 
   -- a batch is borne out by the list with all that it accepted
-  pub batch_borne_by : (cs : List G) (s : State) (l : List G) → IsHistory base l → s ≡ after base l → total ≡ l ++ taken s cs → AreBorneOut base total (length l) (sent_by published all (cs ++ rest) (outcomes_of s cs k))
+  pub batch_borne_by : (cs : List G) (s : State) (l : List G) → IsHistory base l → s ≡ after base l → total ≡ l ++ taken s cs → AreBorneOut base total (length l) (sent_by t published all (cs ++ rest) (outcomes_of s cs k))
   batch_borne_by [] s l a at split =
-      let whole : length total ≡ length l = ap length (split ∙ append-nil l) in none_borne_out base total (length l) published all rest k (omega arith)
+      let whole : length total ≡ length l = ap length (split ∙ append-nil l) in none_borne_out base total (length l) t published all rest k (omega arith)
   batch_borne_by (c ∷ cs) s l a at split =
       step_by (is_acceptance (reply_to s c)) s l c cs refl (λ l' a' at' split'. batch_borne_by cs (next s c) l' a' at' split') a at split
 
@@ -173,16 +173,16 @@ parts_of s t cs os h =
     }
 
 -- the answers to it are borne out by what was durable before, with all that it accepted
-pub commit_borne_out : (base : State) (durable published : List G) (all : Bool) (cs : List G) (os : List (Outcome Global)) (t : State) → IsHistory base durable → IsAnswered (after base durable) cs t os
-    → AreBorneOut base (durable ++ accepted_by cs os) (length durable) (sent_by published all cs os)
-commit_borne_out base durable published all cs os t a h =
+pub commit_borne_out : (base : State) (t : ℕ) (durable published : List G) (all : Bool) (cs : List G) (os : List (Outcome Global)) (u : State) → IsHistory base durable → IsAnswered (after base durable) cs u os
+    → AreBorneOut base (durable ++ accepted_by cs os) (length durable) (sent_by t published all cs os)
+commit_borne_out base t durable published all cs os u a h =
     let s = after base durable in
-    let p = parts_of s t cs os h in
+    let p = parts_of s u cs os h in
     let total : List G = durable ++ accepted_by cs os in
-    let made : AreBorneOut base total (length durable) (sent_by published all (p.first ++ p.rest) (outcomes_of s p.first p.none)) =
-    batch_borne_by base total published all p.rest p.none p.first s durable a refl (ap (λ l. durable ++ l) p.accepted) in
-    subst (λ (l : List (Outcome Global)). AreBorneOut base total (length durable) (sent_by published all cs l)) p.outcomes
-    (subst (λ l. AreBorneOut base total (length durable) (sent_by published all l (outcomes_of s p.first p.none))) p.whole made)
+    let made : AreBorneOut base total (length durable) (sent_by t published all (p.first ++ p.rest) (outcomes_of s p.first p.none)) =
+    batch_borne_by base total published all p.rest p.none t p.first s durable a refl (ap (λ l. durable ++ l) p.accepted) in
+    subst (λ (l : List (Outcome Global)). AreBorneOut base total (length durable) (sent_by t published all cs l)) p.outcomes
+    (subst (λ l. AreBorneOut base total (length durable) (sent_by t published all l (outcomes_of s p.first p.none))) p.whole made)
 
 -- ---- what was sent to each station
 
@@ -193,7 +193,7 @@ some_at (x ∷ xs) (y ∷ ys) zero b e h = (x, refl)
 some_at (x ∷ xs) (y ∷ ys) (suc k) b e h = some_at xs ys k b (omega arith) h
 
 -- what was sent on a channel are the first of what there was to send
-sent_first : (old new xs : List Sent) (was now : Bool) → HasAnswered old new was now xs → IsPrefix new (old ++ xs)
+pub sent_first : (old new xs : List Sent) (was now : Bool) → HasAnswered old new was now xs → IsPrefix new (old ++ xs)
 sent_first old new xs was now h = elim h.sent [ inl q ↦ ([], append-nil new ∙ q.2) | inr q ↦ q.2 ]
 
 -- answers that are borne out past all that was durable are sent in order

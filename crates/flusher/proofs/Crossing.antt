@@ -12,6 +12,7 @@ use Rattle.answers.proofs.channel.AnswerReceiver.TheSendSync as receiver_crosses
 use Rattle.snapshots.specs.declared.log.Centre as centre
 use Rattle.snapshots.proofs.Crossing.{viewer_send, published_send}
 use Rattle.flusher.proofs.decision.Decision.TheSendSync as decision_crosses
+use Rattle.flusher.specs.contracts.moment.Moment as moment
 use Rattle.flusher.specs.contracts.response.Response as response
 use Rattle.flusher.specs.contracts.response.Response.TheInside as inside
 use Rattle.flusher.specs.contracts.session.Session as session
@@ -23,10 +24,14 @@ command_send = command_crosses.the_send Heap.the_row ghosts send frees
 command_sync : IsSync (command.the_row Heap.the_row ghosts)
 command_sync = command_crosses.the_sync Heap.the_row ghosts sync
 
+-- a moment owns nothing
+moment_send : IsSend moment.the_row
+moment_send = record { owned = λ d vs. ((λ vss. (tt, ((λ uss. (tt, tt)), tt))), tt); leaving = λ k f vs. tt }
+
 inside_send : (T : RattleType) (g : centre.Ghosts T.Denot) → IsSend T → IsSend (inside.the_row T g)
 inside_send T g s =
     let shared = Arc-send (command.the_row Heap.the_row ghosts) command_send command_sync in
-    declared_send (inside.the_type T g) (shared, (published_send T g s, (decision_crosses.the_send, tt)))
+    declared_send (inside.the_type T g) (shared, (published_send T g s, (decision_crosses.the_send, (moment_send, tt))))
 
 pub response_send : (T : RattleType) (g : centre.Ghosts T.Denot) → IsSend T → IsSend (response.the_row T g)
 response_send T g s = let i = inside_send T g s in search (i, view_send)

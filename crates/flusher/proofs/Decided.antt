@@ -51,15 +51,15 @@ are_borne : (base : State) (published l : List G) (all : Bool) → (all ≡ true
 are_borne base published l all whole pre a [] ys s k h = none_borne base published all ys k
 are_borne base published l all whole pre a (x ∷ xs) ys s k h = (borne_by base published l all whole pre a x (reply_to s x) h.0, are_borne base published l all whole pre a xs ys (next s x) k h.1)
 
-none_answered : (published : List G) (all : Bool) (cs : List G) (k : ℕ) → entries_of (sent_by published all cs (replicate k outcome.NoMemory)) ≡ []
-none_answered published all [] k = refl
-none_answered published all (c ∷ cs) zero = refl
-none_answered published all (c ∷ cs) (suc k) = none_answered published all cs k
+none_answered : (t : ℕ) (published : List G) (all : Bool) (cs : List G) (k : ℕ) → entries_of (sent_by t published all cs (replicate k outcome.NoMemory)) ≡ []
+none_answered t published all [] k = refl
+none_answered t published all (c ∷ cs) zero = refl
+none_answered t published all (c ∷ cs) (suc k) = none_answered t published all cs k
 
 -- the replies are the core's answers
-entries_by : (published : List G) (all : Bool) (xs ys : List G) (s : State) (k : ℕ) → entries_of (sent_by published all (xs ++ ys) (map outcome.Replied (replies Global s xs) ++ replicate k outcome.NoMemory)) ≡ answered all (with_replies Global s xs)
-entries_by published all [] ys s k = none_answered published all ys k
-entries_by published all (x ∷ xs) ys s k = ap (λ es. (x, answer_from all (reply_to s x)) ∷ es) (entries_by published all xs ys (next s x) k)
+entries_by : (t : ℕ) (published : List G) (all : Bool) (xs ys : List G) (s : State) (k : ℕ) → entries_of (sent_by t published all (xs ++ ys) (map outcome.Replied (replies Global s xs) ++ replicate k outcome.NoMemory)) ≡ answered all (with_replies Global s xs)
+entries_by t published all [] ys s k = none_answered t published all ys k
+entries_by t published all (x ∷ xs) ys s k = ap (λ es. (x, answer_from all (reply_to s x)) ∷ es) (entries_by t published all xs ys (next s x) k)
 
 none_accepted : (cs : List G) (k : ℕ) → accepted_by cs (replicate k outcome.NoMemory) ≡ []
 none_accepted [] k = refl
@@ -85,10 +85,10 @@ length-replicate : {X : Type 0} (k : ℕ) (x : X) → length (replicate k x) ≡
 length-replicate zero x = refl
 length-replicate (suc k) x = ap suc (length-replicate k x)
 
-pub commands_by : (published : List G) (all : Bool) (cs : List G) (os : List (Outcome Global)) → length os ≡ length cs → commands_of (sent_by published all cs os) ≡ cs
-commands_by published all [] os e = refl
-commands_by published all (c ∷ cs) [] e = absurd (omega arith)
-commands_by published all (c ∷ cs) (o ∷ os) e = ap (λ l. c ∷ l) (commands_by published all cs os (omega arith))
+pub commands_by : (t : ℕ) (published : List G) (all : Bool) (cs : List G) (os : List (Outcome Global)) → length os ≡ length cs → commands_of (sent_by t published all cs os) ≡ cs
+commands_by t published all [] os e = refl
+commands_by t published all (c ∷ cs) [] e = absurd (omega arith)
+commands_by t published all (c ∷ cs) (o ∷ os) e = ap (λ l. c ∷ l) (commands_by t published all cs os (omega arith))
 
 -- what a commit that was answered comes to, after this list
 pub record Comes (base : State) (log cmds : List G) (t : State) (os : List (Outcome Global)) : Type 0 where
@@ -97,7 +97,7 @@ pub record Comes (base : State) (log cmds : List G) (t : State) (os : List (Outc
   pub each : length os ≡ length cmds
   pub history : IsHistory base (log ++ taken (after base log) (take reached cmds))
   pub state : t ≡ after base (log ++ taken (after base log) (take reached cmds))
-  pub entries : (published : List G) (all : Bool) → entries_of (sent_by published all cmds os) ≡ answered all (with_replies Global (after base log) (take reached cmds))
+  pub entries : (t : ℕ) (published : List G) (all : Bool) → entries_of (sent_by t published all cmds os) ≡ answered all (with_replies Global (after base log) (take reached cmds))
   pub borne_out : (published : List G) (all : Bool) → (all ≡ true → published ≡ log ++ taken (after base log) (take reached cmds)) → IsPrefix published (log ++ taken (after base log) (take reached cmds)) → BearsOutDecisions base published all cmds os
 
 pub comes : (base s t : State) (log cmds : List G) (os : List (Outcome Global)) → IsHistory base log → s ≡ after base log → IsAnswered s cmds t os → Comes base log cmds t os
@@ -122,6 +122,6 @@ comes base s t log cmds os a at h =
       each = omega (arith, most, long, l1, l2, l3, l4);
       history = well.0;
       state = h.state ∙ ap (λ u. after u xs) at ∙ sym (after_taken b xs) ∙ sym (after-append base log (taken b xs));
-      entries = λ published all. (λ j. entries_of (sent_by published all (sym parts j) (sym is j))) ∙ entries_by published all xs ys b (length cmds - n);
+      entries = λ u published all. (λ j. entries_of (sent_by u published all (sym parts j) (sym is j))) ∙ entries_by u published all xs ys b (length cmds - n);
       borne_out = λ published all whole pre. subst (λ (q : List G × List (Outcome Global)). BearsOutDecisions base published all q.0 q.1) (λ j. (parts j, is j)) (are_borne base published (log ++ taken b xs) all whole pre well.0 xs ys b (length cmds - n) well.1);
     }

@@ -11,18 +11,18 @@ use Rattle.flusher.specs.Lasting.{AreLasting, no_more, onward}
 use Rattle.flusher.specs.Served.{IsSettled}
 use Rattle.flusher.specs.Stored.{IsStoredFor}
 use Rattle.flusher.specs.View.{FlusherView}
-use Rattle.flusher.proofs.Between.{none_between, one_more_between}
+use Rattle.flusher.proofs.Between.{now_between, one_more_between}
 
 module _ {D : Type 0} (view : D → View) (base : State) where
-  rounds_of : (f g : FlusherView D) → AreLasting view base f g → AreRounds base f g
+  pub rounds_of : (f g : FlusherView D) → AreLasting view base f g → AreRounds view base f g
   rounds_of f g (no_more x) = none x
   rounds_of f g (onward x m y first settled since rest) = next x m y first (rounds_of m y rest)
 
   -- one more round
-  pub one_more_lasting : (f m g : FlusherView D) → IsRound base m g → AreLasting view base f m → IsSettled base m → IsSettled base g
+  pub one_more_lasting : (f m g : FlusherView D) → IsRound view base m g → AreLasting view base f m → IsSettled base m → IsSettled base g
       → (m.store.broken ≡ false → LeavesOnly (view m.store.disk) (view g.store.disk) (OpensToEither Global m.store.register g.store.register))
       → ((view g.store.disk).honest → IsSound (view g.store.disk)) → IsStoredFor view base g → AreLasting view base f g
-  one_more_lasting f m g r (no_more x) was now second sound kept = onward x g g r now (λ up. none_between view base g sound (now.made up) kept up) (no_more g)
+  one_more_lasting f m g r (no_more x) was now second sound kept = onward x g g r now (now_between view base g sound now.made kept) (no_more g)
   one_more_lasting f m g r (onward x y z first settled since rest) was now second sound kept =
-      onward x y g first settled (λ up. one_more_between view base y z g r (rounds_of y z rest) z.store.broken refl was.made was.order now.made second (since up))
+      onward x y g first settled (one_more_between view base y z g r (rounds_of y z rest) z.store.broken refl was.made was.order now.made second since)
       (one_more_lasting y z g r rest was now second sound kept)

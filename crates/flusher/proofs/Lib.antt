@@ -1,3 +1,4 @@
+mod Moments
 pub mod Decided
 pub mod Short
 pub mod Published

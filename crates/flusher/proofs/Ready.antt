@@ -1,7 +1,7 @@
 -- From a commit to what is durable then.
 use Rattle.std.specs.declared.alloc.Global.{Global}
 use Rattle.std.specs.declared.sync.Arc.{Arc}
-use Rattle.std.proofs.Common.{◌≡◌, Bool, true, false, true≢false, cond, List, [], ◌++◌, ap, sym, ◌∙◌, subst}
+use Rattle.std.proofs.Common.{◌≡◌, ℕ, Bool, true, false, true≢false, cond, List, [], ◌++◌, ap, sym, ◌∙◌, subst}
 use Rattle.std.proofs.lemmas.List.{append-nil}
 use mathlib.Core.List.{IsPrefix}
 use Rattle.centre_core.specs.Asked.{Asked}
@@ -44,8 +44,8 @@ begins : (all : Bool) (before durable kept : List G) → durable ≡ before ++ k
 begins true before durable kept is = prefix_self durable
 begins false before durable kept is = (kept, sym is)
 
-pub published_begins : (before durable list cmds kept : List G) (os : List (Outcome Global)) (xs ys : List (AnswerSender Sent)) → durable ≡ before ++ kept → HavePublished before durable list cmds os xs ys → IsPrefix list durable
-published_begins before durable list cmds kept os xs ys is h = subst (λ l. IsPrefix l durable) (sym h.published) (begins h.all before durable kept is)
+pub published_begins : (t : ℕ) (was now : Attempts) (before durable list cmds kept : List G) (os : List (Outcome Global)) (xs ys : List (AnswerSender Sent)) → durable ≡ before ++ kept → HavePublished t was now before durable list cmds os xs ys → IsPrefix list durable
+published_begins t was now before durable list cmds kept os xs ys is h = subst (λ l. IsPrefix l durable) (sym h.published) (begins h.all before durable kept is)
 
 module _ {D : Type 0} (cmds : List G) (old new : StoreView Global D) where
   pub refused_made : (f : StoreFault) (was now : Attempts) → IsRefusedBy cmds old new f was now → new.broken ≡ false → new.register ≡ old.register

@@ -1,6 +1,7 @@
 -- Rounds, one after another.
 use Rattle.std.proofs.Common.{◌≡◌, ◌⊎◌, inl, inr, ℕ, zero, suc, ◌+◌, ◌-◌, ◌<◌, ◌≤◌, true, List, [], ◌∷◌, length, refl, sym, ◌∙◌, arith}
 use Rattle.std.specs.Prelude.{◌^◌, All, IsTrue, Some, slice_get, slice_index_or}
+use Rattle.sector_disk.specs.Disk.{View}
 use Rattle.crossbeam_channel.specs.Ends.{sends_on}
 use Rattle.centre_core.specs.State.{State}
 use Rattle.answers.specs.declared.channel.AnswerSender.{AnswerSender}
@@ -24,7 +25,7 @@ within (y ∷ xs) (suc k) x e = let lt = within xs k x e in omega (arith, lt)
 
 module _ {D : Type 0} where
   -- rounds, and one more
-  pub one_more_round : (base : State) (f g h : FlusherView D) → AreRounds base f g → IsRound base g h → AreRounds base f h
+  pub one_more_round : {view : D → View} (base : State) (f g h : FlusherView D) → AreRounds view base f g → IsRound view base g h → AreRounds view base f h
   one_more_round base f g h (none x) r = next x h h r (none h)
   one_more_round base f g h (next x m y first rest) r = next x m h first (one_more_round base m y h rest r)
 
@@ -35,7 +36,7 @@ module _ {D : Type 0} where
       same a b e = cc
 
   -- a round keeps the queue and the channels
-  pub ends_still : (base : State) (f g h : FlusherView D) → HasSameEnds f g → IsRound base g h → HasSameEnds f h
+  pub ends_still : {view : D → View} (base : State) (f g h : FlusherView D) → HasSameEnds f g → IsRound view base g h → HasSameEnds f h
   ends_still base f g h s r = record {
     queue = r.taken.queue ∙ s.queue;
     count = r.served.answered.count ∙ s.count;

@@ -2,7 +2,6 @@
 use Rattle.std.specs.Prelude.{Some, slice_get}
 use Rattle.std.specs.List.{AllZip}
 use Rattle.std.proofs.Common.{◌≡◌, ℕ, zero, suc, ◌<◌, List, [], ◌∷◌, length, refl, ap, sym, ◌∙◌, subst, arith}
-use Rattle.crossbeam_channel.specs.Ends.{sends_on, receives_on}
 use Rattle.station_queue.specs.Ends.{Sending}
 use Rattle.answers.specs.declared.channel.AnswerSender.{AnswerSender}
 use Rattle.flusher.specs.declared.session.Ended.{Ended}

@@ -1,87 +1,144 @@
--- What stays on the disk from a moment on, over rounds.
+-- Each answer of a run was durable before it was sent.
+use Rattle.std.specs.Prelude.{◌==◌, Some, slice_get}
+use Rattle.std.specs.List.{AllByRecursion}
 use Rattle.std.specs.declared.alloc.Global.{Global}
-use Rattle.std.proofs.Common.{◌≡◌, ℕ, ◌≤◌, inl, inr, Bool, true, false, true≢false, List, ◌++◌, refl, ap, sym, ◌∙◌, subst, arith}
+use Rattle.std.proofs.Common.{◌≡◌, ◌⊎◌, ℕ, ◌+◌, ◌≤◌, inl, inr, Bool, true, false, cond, List, [], ◌∷◌, ◌++◌, length, take, drop, refl, ap, sym, ◌∙◌, subst}
+use Rattle.std.proofs.lemmas.List.{take-append-drop, take-append-le}
 use mathlib.Core.List.{IsPrefix}
-use Rattle.sector_disk.specs.Disk.{IsSound, View}
+use Rattle.sector_disk.specs.Disk.{View}
 use Rattle.sector_disk.specs.Run.{LeavesOnly}
 use Rattle.centre_core.specs.Asked.{Asked}
 use Rattle.centre_core.specs.State.{State}
-use Rattle.centre_core.specs.History.{after}
-use Rattle.recovery.specs.Lives.{StoreView}
-use Rattle.recovery.specs.Outcomes.{OpensToEither}
-use Rattle.recovery.specs.OpensTo.{OpensTo}
-use Rattle.snapshots.proofs.Prefixes.{prefix_self, prefix_trans}
-use Rattle.flusher.specs.Shared.{commands_among}
+use Rattle.recovery.specs.declared.outcome.Outcome.{Outcome}
+use Rattle.answers.specs.declared.channel.AnswerSender.{AnswerSender}
+use Rattle.answers.specs.Views.{sent_of}
+use Rattle.snapshots.proofs.Prefixes.{prefix_trans}
+use Rattle.recovery.specs.declared.fault.StoreFault.TheVariants.{Broken}
+use Rattle.flusher.specs.declared.decision.Decision.{Decision}
+use Rattle.flusher.specs.declared.decision.Decision.TheVariants as decision
+use Rattle.flusher.specs.Stages.{Sent, sent_by, sent_to_all}
+use Rattle.flusher.specs.Answerings.{answers_to}
+use Rattle.flusher.specs.Borne.{AreBorneOut, IsBorneAt, IsDecisionAfter}
+use Rattle.flusher.specs.Lasting.{AreLasting, no_more, onward}
 use Rattle.flusher.specs.Rounds.{IsRound}
-use Rattle.flusher.specs.Runs.{none}
-use Rattle.flusher.specs.Served.{IsSettled}
-use Rattle.flusher.specs.Since.{IsKeptSince, OpensFrom}
-use Rattle.flusher.specs.Stored.{IsStoredFor, OpensBetween}
-use Rattle.flusher.specs.View.{FlusherView}
-use Rattle.flusher.proofs.Batched.{commands_among-append}
-use Rattle.flusher.proofs.Between.{none_between, one_more_between, round_idle}
-use Rattle.flusher.proofs.ByItself.{round_longer}
-use Rattle.flusher.proofs.Kept.{still}
+use Rattle.flusher.specs.Served.{AreServedBy, IsSettled, decision_by}
+use Rattle.flusher.specs.Shared.{commands_among}
+use Rattle.flusher.specs.Since.{IsKeptSince, WasDurable}
+use Rattle.flusher.specs.Stored.{OpensBetween}
+use Rattle.flusher.specs.View.{FlusherView, Progress, progress_of}
+use Rattle.flusher.proofs.Between.{rounds_longer}
+use Rattle.flusher.proofs.Borne.{sent_first, some_at}
+use Rattle.flusher.proofs.Lasting.{rounds_of}
 
 abbrev G : Type 0
 G = Asked Global
 
+-- ---- lists of answers
+
+module _ (P : Sent → Type 0) where
+  all_joined : (xs ys : List Sent) → AllByRecursion P xs → AllByRecursion P ys → AllByRecursion P (xs ++ ys)
+  all_joined [] ys h k = k
+  all_joined (x ∷ xs) ys h k = (h.0, all_joined xs ys h.1 k)
+
+  all_first : (xs ys : List Sent) → AllByRecursion P (xs ++ ys) → AllByRecursion P xs
+  all_first [] ys h = tt
+  all_first (x ∷ xs) ys h = (h.0, all_first xs ys h.1)
+
+  pub all_prefix : (xs ys : List Sent) → IsPrefix xs ys → AllByRecursion P ys → AllByRecursion P xs
+  all_prefix xs ys p h = all_first xs p.0 (subst (λ l. AllByRecursion P l) (sym p.1) h)
+
+  all_to : (s : ℕ) (xs : List Sent) → AllByRecursion P xs → AllByRecursion P (answers_to s xs)
+  all_to s [] h = tt
+  all_to s (x ∷ xs) h = by (x.command.station == s) (all_to s xs h.1)
+    where
+      by : (b : Bool) → AllByRecursion P (answers_to s xs) → AllByRecursion P (cond b (x ∷ answers_to s xs) (answers_to s xs))
+      by true rest = (h.0, rest)
+      by false rest = rest
+
+all_weaker : (P Q : Sent → Type 0) (xs : List Sent) → ((x : Sent) → P x → Q x) → AllByRecursion P xs → AllByRecursion Q xs
+all_weaker P Q [] to h = tt
+all_weaker P Q (x ∷ xs) to h = (to x h.0, all_weaker P Q xs to h.1)
+
+-- ---- the moment of each answer of a round
+
+module _ (t : ℕ) where
+  abbrev IsAt : Sent → Type 0
+  IsAt x = x.moment ≡ t
+
+  moments_by : (published : List G) (all : Bool) (cs : List G) (os : List (Outcome Global)) → AllByRecursion IsAt (sent_by t published all cs os)
+  moments_by published all [] os = tt
+  moments_by published all (c ∷ cs) [] = tt
+  moments_by published all (c ∷ cs) (o ∷ os) = (refl, moments_by published all cs os)
+
+  moments_alike : (published : List G) (d : Decision) (cs : List G) → AllByRecursion IsAt (sent_to_all t published d cs)
+  moments_alike published d [] = tt
+  moments_alike published d (c ∷ cs) = (refl, moments_alike published d cs)
+
+  moments_served : {D : Type 0} (base : State) (f g : Progress D) (commands : List G) (answers : List Sent) (b : Bool) → AreServedBy base t f g commands answers b → AllByRecursion IsAt answers
+  moments_served base f g commands answers true h = subst (λ l. AllByRecursion IsAt l) (sym h.each) (moments_alike g.published (decision.Fault Broken) commands)
+  moments_served base f g commands answers false h = elim h [
+    | inl done ↦ subst (λ l. AllByRecursion IsAt l) (sym done.each) (moments_by g.published done.all commands done.outcomes)
+    | inr rest ↦ elim rest [
+      | inl refused ↦ subst (λ l. AllByRecursion IsAt l) (sym refused.each) (moments_alike g.published (decision_by refused.fault) commands)
+      | inr late ↦ subst (λ l. AllByRecursion IsAt l) (sym late.each) (moments_alike g.published decision.NoMemory commands)
+    ]
+  ]
+
 module _ {D : Type 0} (view : D → View) (base : State) where
-  -- what is durable now stays, from now on
-  pub kept_now : (f : FlusherView D) → IsSettled base f → ((view f.store.disk).honest → IsSound (view f.store.disk)) → IsStoredFor view base f → f.store.broken ≡ false
-      → IsKeptSince view base f (view f.store.disk).moment f.durable
-  kept_now f settled sound stored up = record {
-    durable = prefix_self f.durable;
-    earlier = omega arith;
-    since = (none_between view base f sound (settled.made up) stored up).each;
-  }
-
-  module _ (m g : FlusherView D) (r : IsRound base m g) (t : ℕ) (least : List G) (k : IsKeptSince view base m t least) where
-    -- the store was broken before the round
-    kept_down : m.store.broken ≡ true → IsKeptSince view base g t least
-    kept_down down =
-        let same = round_idle base m g r down in
-        let more_taken : commands_among g.taker.taken ≡ commands_among m.taker.taken ++ commands_among r.popped = ap commands_among r.taken.taken ∙ commands_among-append m.taker.taken r.popped in
-        let stays : (image : List (List ℕ)) → OpensFrom base least m image → OpensFrom base least g image =
-        λ image is. elim is [
-          | inl q ↦ inl (q.0, q.1, subst (IsPrefix q.0) (sym same.1) q.2, q.3)
-          | inr q ↦ inr (
-            q.0,
-            ap (λ (s : StoreView Global D). s.broken) same.0 ∙ down,
-            still view base m g (commands_among r.popped) more_taken q.0 same.1 q.2,
-            subst (λ (d : List G). OpensTo Global (after base (d ++ q.0)) image) (sym same.1) q.3,
-          )
-        ] in
-        record {
-          durable = subst (IsPrefix least) (sym same.1) k.durable;
-          earlier = subst (λ (s : StoreView Global D). t ≤ (view s.disk).moment) (sym same.0) k.earlier;
-          since = λ image left. stays image (k.since image (subst (λ (s : StoreView Global D). (view s.disk).since t image) same.0 left));
-        }
-
-    kept_up : m.store.broken ≡ false → LeavesOnly (view m.store.disk) (view g.store.disk) (OpensBetween base m g) → IsKeptSince view base g t least
-    kept_up up leaves =
-        let before : (image : List (List ℕ)) → OpensFrom base least m image → OpensFrom base least g image =
-        λ image is. elim is [
-          | inl q ↦ inl (q.0, q.1, prefix_trans q.0 m.durable g.durable q.2 (round_longer base m g r), q.3)
-          | inr q ↦ absurd (true≢false (sym q.1 ∙ up))
-        ] in
-        let now : (image : List (List ℕ)) → OpensBetween base m g image → OpensFrom base least g image =
-        λ image is. elim is [
-          | inl q ↦ inl (q.0, prefix_trans least m.durable q.0 k.durable q.1, q.2, q.3)
+  -- what was durable at the end of a round is kept from then on, and so is each prefix of it
+  kept_since : (g h : FlusherView D) (n : ℕ) → IsPrefix g.durable h.durable → LeavesOnly (view g.store.disk) (view h.store.disk) (OpensBetween base g h)
+      → IsKeptSince view base h (view g.store.disk).moment (take n g.durable)
+  kept_since g h n longer leaves =
+      let first : IsPrefix (take n g.durable) g.durable = (drop n g.durable, take-append-drop n g.durable) in
+      record {
+        durable = prefix_trans (take n g.durable) g.durable h.durable first longer;
+        earlier = leaves.later;
+        since = λ image left. elim (leaves.each image left) [
+          | inl q ↦ inl (q.0, prefix_trans (take n g.durable) g.durable q.0 first q.1, q.2, q.3)
           | inr q ↦ inr q
-        ] in
-        record {
-          durable = prefix_trans least m.durable g.durable k.durable (round_longer base m g r);
-          earlier = omega (arith, k.earlier, leaves.later);
-          since = λ image left. elim (leaves.before t image k.earlier left) [
-            | inl was ↦ before image (k.since image was)
-            | inr is ↦ now image is
-          ];
-        }
+        ];
+      }
 
-    -- what stays from a moment on stays over a round
-    pub kept_on : (b : Bool) → m.store.broken ≡ b → IsSettled base m → IsSettled base g → ((view m.store.disk).honest → IsSound (view m.store.disk)) → IsStoredFor view base m
-        → (m.store.broken ≡ false → LeavesOnly (view m.store.disk) (view g.store.disk) (OpensToEither Global m.store.register g.store.register)) → IsKeptSince view base g t least
-    kept_on true down was now sound stored second = kept_down down
-    kept_on false up was now sound stored second =
-        kept_up up (one_more_between view base m m g r (none m) m.store.broken refl was.made was.order now.made second (none_between view base m sound (was.made up) stored up))
+  module _ (g h : FlusherView D) (longer : IsPrefix g.durable h.durable) (leaves : LeavesOnly (view g.store.disk) (view h.store.disk) (OpensBetween base g h)) where
+    -- an answer that was sent at the end of a round
+    one_durable : (x : Sent) (place : ℕ) → place ≤ length g.durable → IsBorneAt base g.durable place x → x.moment ≡ (view g.store.disk).moment → WasDurable view base h x
+    one_durable x place le borne at =
+        let same : take place g.durable ≡ take place h.durable = sym (take-append-le place g.durable longer.0 le) ∙ ap (take place) longer.1 in (
+          place,
+          subst (λ l. IsDecisionAfter base l x.command x.decision) same borne,
+          subst (λ (q : ℕ × List G). IsKeptSince view base h q.0 q.1) (λ j. (sym at j, same j)) (kept_since g h place longer leaves),
+        )
+
+    -- each answer was, or was sent at that moment
+    each_durable : (low : ℕ) (xs : List Sent) → AreBorneOut base g.durable low xs → AllByRecursion (λ x. WasDurable view base h x ⊎ (x.moment ≡ (view g.store.disk).moment)) xs → AllByRecursion (WasDurable view base h) xs
+    each_durable low [] borne each = tt
+    each_durable low (x ∷ xs) borne each = (
+      elim each.0 [ inl was ↦ was | inr at ↦ one_durable x borne.0 borne.2 borne.3 at ],
+      each_durable borne.0 xs borne.4 each.1,
+    )
+
+  -- each answer that these channels were sent
+  abbrev pub AreDurable : FlusherView D → List (AnswerSender Sent) → Type 0
+  AreDurable h senders = (k : ℕ) (a : AnswerSender Sent) → slice_get senders k ≡ Some a → AllByRecursion (WasDurable view base h) (sent_of a.pass)
+
+  round_durable : (f g h : FlusherView D) → IsRound view base f g → IsSettled base g → IsPrefix g.durable h.durable → LeavesOnly (view g.store.disk) (view h.store.disk) (OpensBetween base g h)
+      → AreDurable h f.senders → AreDurable h g.senders
+  round_durable f g h r settled longer leaves each k b there =
+      let t = (view g.store.disk).moment in
+      let answers = r.served.answers in
+      let was = some_at f.senders g.senders k b r.served.answered.count there in
+      let a = was.0 in
+      let mine : List Sent = answers_to (k + 1) answers in
+      let Either : Sent → Type 0 = λ x. WasDurable view base h x ⊎ (x.moment ≡ t) in
+      let old : AllByRecursion Either (sent_of a.pass) = all_weaker (WasDurable view base h) Either (sent_of a.pass) (λ x d. inl d) (each k a was.1) in
+      let at : AllByRecursion (IsAt t) answers = moments_served t base (progress_of f) (progress_of g) (commands_among r.popped) answers f.store.broken r.served.served in
+      let new : AllByRecursion Either mine = all_weaker (IsAt t) Either mine (λ x e. inr e) (all_to (IsAt t) (k + 1) answers at) in
+      let first = sent_first (sent_of a.pass) (sent_of b.pass) mine a.gone b.gone (r.served.answered.each k a b was.1 there).1 in
+      each_durable g h longer leaves 0 (sent_of b.pass) (settled.sent k b there)
+      (all_prefix Either (sent_of b.pass) (sent_of a.pass ++ mine) first (all_joined Either (sent_of a.pass) mine old new))
+
+  -- each answer that was sent in these rounds
+  pub run_durable : (f h : FlusherView D) → AreLasting view base f h → AreDurable h f.senders → AreDurable h h.senders
+  run_durable f h (no_more x) each = each
+  run_durable f h (onward x g y r settled since rest) each =
+      run_durable g y rest (round_durable x g y r settled (rounds_longer view base g y (rounds_of view base g y rest)) since each)

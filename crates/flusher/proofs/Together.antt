@@ -1,5 +1,5 @@
 -- Commands that are submitted together.
-use Rattle.std.proofs.Common.{◌≡◌, ◌⊎◌, inl, inr, ℕ, zero, suc, ◌+◌, ◌<◌, ◌≤◌, List, [], ◌∷◌, ◌++◌, get_or, length, take, refl, ap, sym, ◌∙◌, subst, arith}
+use Rattle.std.proofs.Common.{◌≡◌, inl, inr, ℕ, suc, ◌+◌, ◌<◌, ◌≤◌, List, [], ◌∷◌, ◌++◌, get_or, length, take, refl, ap, sym, ◌∙◌, subst, arith}
 use Rattle.std.specs.Prelude.{replicate}
 use Rattle.std.proofs.Math.Seq.{take-suc}
 use Rattle.std.specs.declared.alloc.Global.{Global}
@@ -12,7 +12,7 @@ use Rattle.flusher.specs.declared.answer.Answer.{Answer}
 use Rattle.flusher.specs.declared.answer.Answer.TheVariants as answer
 use Rattle.flusher.specs.Stages.{Sent}
 use Rattle.flusher.specs.Heard.{AreHeard, ArePut, Heard, IsHeard, heard, session_view}
-use Rattle.flusher.specs.Submitted.{AreSubmissions, Fits, HasReceived, IsPut, IsSubmission, IsWithin, SessionView}
+use Rattle.flusher.specs.Submitted.{AreSubmissions, IsPut, IsSubmission, IsWithin, SessionView}
 
 abbrev G : Type 0
 G = Asked Global

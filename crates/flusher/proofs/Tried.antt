@@ -30,7 +30,7 @@ use Rattle.recovery.specs.Stored.{fresh_place}
 use Rattle.recovery.proofs.Stored.{fits_fresh}
 use Rattle.recovery.proofs.Committed.{none_kept, room_kept}
 use Rattle.flusher.specs.declared.committing.Attempts.{Attempts}
-use Rattle.flusher.specs.Attempts.{HasAttempted, IsNext, WasOutOfMemory}
+use Rattle.flusher.specs.Attempts.{HasAttempted, HasFailedNext, IsAtMostNext, IsNext, WasOutOfMemory}
 use Rattle.flusher.specs.Batches.{AreKept, HasMadeRoom, HasRecorded, HasTried, IsAnswerOf, IsRefusedBy, IsUndone, LacksRoom}
 
 abbrev G : Type 0
@@ -172,6 +172,12 @@ two_other n m k f h e = elim (more_or_not n) [
 
 pub out_at : (was now : Attempts) (r : Answers) → HasAttempted was r now → IsErrOf r NoMemory → WasOutOfMemory was now
 out_at was now r h is = record { refused = h.exact.1 is; tried = next_other was.count now.count h.counted }
+
+pub out_again : (was mid now : Attempts) → IsAtMostNext was mid → HasFailedNext mid now → WasOutOfMemory was now
+out_again was mid now first f = record {
+  refused = f.1;
+  tried = elim first [ inl same ↦ next_other was.count now.count (subst (λ n. IsNext n now.count) same f.0) | inr next ↦ two_other was.count mid.count now.count next f.0 ];
+}
 
 pub out_after : (was mid now : Attempts) (q r : Answers) → HasAttempted was q mid → HasAttempted mid r now → IsErrOf r NoMemory → WasOutOfMemory was now
 out_after was mid now q r f h is = record { refused = h.exact.1 is; tried = two_other was.count mid.count now.count f.counted h.counted }

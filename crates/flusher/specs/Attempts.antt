@@ -1,5 +1,5 @@
--- Whether a commit was out of memory.
-use Rattle.std.specs.Prelude.{◌≡◌, ◌↔◌, ◌<◌, ◌≤◌, ◌+◌, ◌^◌, ℕ, true, IsTrue, IsErrOf, Result, Vec}
+-- Whether a commit, or a publication, was out of memory.
+use Rattle.std.specs.Prelude.{◌≡◌, ◌⊎◌, ◌↔◌, ◌<◌, ◌≤◌, ◌+◌, ◌^◌, ℕ, true, IsTrue, IsErrOf, Result, Vec}
 use Rattle.std.specs.declared.alloc.Global.{Global}
 use Rattle.recovery.specs.declared.outcome.Outcome.{Outcome}
 use Rattle.recovery.specs.declared.fault.StoreFault.{StoreFault}
@@ -15,7 +15,24 @@ pub record HasAttempted (was : Attempts) (result : Result (Vec (Outcome Global) 
   pub counted : IsNext was.count now.count
   pub exact : IsTrue now.refused ↔ IsErrOf result NoMemory
 
--- a commit was tried in between, and the last one was out of memory
+-- one was tried in between, and the last one was out of memory
 pub record WasOutOfMemory (was now : Attempts) : Type 0 where
   pub refused : now.refused ≡ true
   pub tried : now.count ≡ was.count → ⊥
+
+-- none was tried in between, or one
+abbrev pub IsAtMostNext : Attempts → Attempts → Type 0
+IsAtMostNext was now = (now.count ≡ was.count) ⊎ IsNext was.count now.count
+
+-- one more was tried, and it was out of memory
+abbrev pub HasFailedNext : Attempts → Attempts → Type 0
+HasFailedNext was now = IsNext was.count now.count × (now.refused ≡ true)
+
+-- how commits were tried, and how publications
+pub record Tries : Type 0 where
+  pub commits : Attempts
+  pub publications : Attempts
+
+-- these two
+abbrev pub tries : Attempts → Attempts → Tries
+tries commits publications = record { commits = commits; publications = publications }

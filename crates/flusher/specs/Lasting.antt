@@ -1,5 +1,4 @@
 -- What stays on the disk once it was answered.
-use Rattle.std.specs.Prelude.{◌≡◌, false}
 use Rattle.sector_disk.specs.Disk.{View}
 use Rattle.sector_disk.specs.Run.{LeavesOnly}
 use Rattle.centre_core.specs.State.{State}
@@ -10,9 +9,9 @@ use Rattle.flusher.specs.View.{FlusherView}
 
 -- Rounds, one after another: none, or one and then rounds. At the end of each, what was answered is borne out by what is durable then
 -- (`IsSettled`). A stop at any later moment leaves an image that opens to all of that, or to more: so it has each command that was answered
--- `ok` or `kept` before. This is said of each round at whose end the store was not broken.
+-- `ok` or `kept` before.
 pub data AreLasting {D : Type 0} (view : D → View) (base : State) : FlusherView D → FlusherView D → Type 0 where
   no_more : (f : FlusherView D) → AreLasting view base f f
-  onward : (f g h : FlusherView D) → IsRound base f g → IsSettled base g
-      → (g.store.broken ≡ false → LeavesOnly (view g.store.disk) (view h.store.disk) (OpensBetween base g h))
+  onward : (f g h : FlusherView D) → IsRound view base f g → IsSettled base g
+      → LeavesOnly (view g.store.disk) (view h.store.disk) (OpensBetween base g h)
       → AreLasting view base g h → AreLasting view base f h

@@ -1,5 +1,6 @@
 -- What a run of the flusher does: rounds, until the end of each session was taken.
 use Rattle.std.specs.Prelude.{◌≡◌, ℕ, ◌+◌, ◌<◌, length, slice_get, Some, Contains}
+use Rattle.sector_disk.specs.Disk.{View}
 use Rattle.crossbeam_channel.specs.Ends.{sends_on}
 use Rattle.centre_core.specs.State.{State}
 use Rattle.station_queue.specs.declared.entry.Entry.TheVariants.{Ended}
@@ -9,9 +10,9 @@ use Rattle.flusher.specs.View.{FlusherView}
 use Rattle.flusher.specs.Rounds.{IsRound}
 
 -- rounds, one after another: none, or one and then rounds
-pub data AreRounds {D : Type 0} (base : State) : FlusherView D → FlusherView D → Type 0 where
-  none : (f : FlusherView D) → AreRounds base f f
-  next : (f g h : FlusherView D) → IsRound base f g → AreRounds base g h → AreRounds base f h
+pub data AreRounds {D : Type 0} (view : D → View) (base : State) : FlusherView D → FlusherView D → Type 0 where
+  none : (f : FlusherView D) → AreRounds view base f f
+  next : (f g h : FlusherView D) → IsRound view base f g → AreRounds view base g h → AreRounds view base f h
 
 -- the end of each session is among the entries taken
 abbrev pub HasTakenEnds : {D : Type 0} → FlusherView D → Type 0

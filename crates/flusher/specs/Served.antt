@@ -2,6 +2,7 @@
 use Rattle.std.specs.Prelude.{◌≡◌, ◌⊎◌, ◌<◌, ◌≤◌, Bool, true, false, cond, List, ◌++◌, length}
 use mathlib.Core.List.{IsPrefix}
 use Rattle.std.specs.declared.alloc.Global.{Global}
+use Rattle.sector_disk.specs.Numbers.{Tick}
 use Rattle.centre_core.specs.Asked.{Asked}
 use Rattle.centre_core.specs.State.{State}
 use Rattle.centre_core.specs.History.{after}
@@ -12,6 +13,7 @@ use Rattle.recovery.specs.Outcomes.{IsAnswered}
 use Rattle.recovery.specs.declared.outcome.Outcome.{Outcome}
 use Rattle.recovery.specs.declared.fault.StoreFault.{StoreFault}
 use Rattle.recovery.specs.declared.fault.StoreFault.TheVariants.{BadGeometry, Broken, Damaged, DiskFault, EpochsUsedUp, NoMemory, Unformatted, Unready}
+use Rattle.flusher.specs.declared.committing.Attempts.{Attempts}
 use Rattle.flusher.specs.declared.decision.Decision.{Decision}
 use Rattle.flusher.specs.declared.decision.Decision.TheVariants as decision
 use Rattle.flusher.specs.Stages.{Sent, HasRun, commands_of, sent_by, sent_to_all}
@@ -44,10 +46,10 @@ decision_by Unformatted = decision.Fault Unformatted
 decision_by BadGeometry = decision.Fault BadGeometry
 decision_by (Damaged at) = decision.Fault (Damaged at)
 
--- From one view to another, with these commands and their answers.
-module _ {D : Type 0} (base : State) (f g : Progress D) (commands : List (Asked Global)) (answers : List Sent) where
+-- From one view to another, with these commands and their answers, which are sent at moment t.
+module _ {D : Type 0} (base : State) (t : Tick) (f g : Progress D) (commands : List (Asked Global)) (answers : List Sent) where
   -- The commands were committed, and each is answered by its outcome: its reply in its turn, and out of memory from the first one on
-  -- that needed memory. What is accepted is published; if it is not, an accepted command is answered as kept. A checkpoint
+  -- that needed memory. What is accepted is published; if that ran out of memory, an accepted command is answered as kept. A checkpoint
   -- was made only if a record of all the commands would not fit.
   pub record AreCommitted : Type 0 where
     pub outcomes : List (Outcome Global)
@@ -55,14 +57,14 @@ module _ {D : Type 0} (base : State) (f g : Progress D) (commands : List (Asked 
     pub answered : IsAnswered (after base f.durable) commands (after base g.durable) outcomes
     pub durable : g.durable ≡ f.durable ++ accepted_by commands outcomes
     pub published : g.published ≡ cond all g.durable f.durable
-    pub some : all ≡ false → length f.durable < length g.durable
+    pub some : all ≡ false → (length f.durable < length g.durable) × WasOutOfMemory f.attempts.publications g.attempts.publications
     pub sound : g.store.broken ≡ false
-    pub each : answers ≡ sent_by g.published all commands outcomes
+    pub each : answers ≡ sent_by t g.published all commands outcomes
     pub recorded : HasRecorded commands f.store g.store
 
   -- why a commit was refused: it ran out of memory itself, no epoch is left for a checkpoint that it needs, or the disk failed
   abbrev pub IsReason : StoreFault → Type 0
-  IsReason NoMemory = WasOutOfMemory f.attempts g.attempts × (g.store.broken ≡ false) × HasRecorded commands f.store g.store
+  IsReason NoMemory = WasOutOfMemory f.attempts.commits g.attempts.commits × (g.store.broken ≡ false) × HasRecorded commands f.store g.store
   IsReason EpochsUsedUp = (last_epoch ≤ f.store.epoch) × LacksRoom f.store.journal commands × (g.store ≡ f.store)
   IsReason DiskFault = HasBroken commands f.store g.store
   IsReason Broken = ⊥
@@ -77,22 +79,23 @@ module _ {D : Type 0} (base : State) (f g : Progress D) (commands : List (Asked 
     pub reason : IsReason fault
     pub durable : g.durable ≡ f.durable
     pub published : g.published ≡ f.durable
-    pub each : answers ≡ sent_to_all g.published (decision_by fault) commands
+    pub each : answers ≡ sent_to_all t g.published (decision_by fault) commands
 
-  -- what was durable before could still not be published: nothing is committed, and each command is answered as out of memory
+  -- what was durable before could still not be published for want of memory: nothing is committed, and each command is answered as out of memory
   pub record HasNotCaughtUp : Type 0 where
     pub fewer : length f.published < length f.durable
+    pub refused : WasOutOfMemory f.attempts.publications g.attempts.publications
     pub durable : g.durable ≡ f.durable
     pub published : g.published ≡ f.published
     pub store : g.store ≡ f.store
-    pub each : answers ≡ sent_to_all g.published decision.NoMemory commands
+    pub each : answers ≡ sent_to_all t g.published decision.NoMemory commands
 
   -- the disk had failed in an earlier round: nothing is changed, and each command is answered so
   pub record AreBroken : Type 0 where
     pub durable : g.durable ≡ f.durable
     pub published : g.published ≡ f.published
     pub store : g.store ≡ f.store
-    pub each : answers ≡ sent_to_all g.published (decision.Fault Broken) commands
+    pub each : answers ≡ sent_to_all t g.published (decision.Fault Broken) commands
 
   -- which of these it is, by whether the disk had failed before
   abbrev pub AreServedBy : Bool → Type 0
@@ -103,18 +106,19 @@ module _ {D : Type 0} (base : State) (f g : Progress D) (commands : List (Asked 
   abbrev pub AreServed : Type 0
   AreServed = AreServedBy f.store.broken
 
--- Each command got one answer, in turn. The same happens in the core by a run of its events, and each answer has its reason.
-pub record HasServed {D : Type 0} (base : State) (f g : Progress D) (commands : List (Asked Global)) (old new : List (AnswerSender Sent)) : Type 0 where
+-- Each command got one answer, in turn, at moment t. The same happens in the core by a run of its events, and each answer has its reason.
+pub record HasServed {D : Type 0} (base : State) (t : Tick) (f g : Progress D) (commands : List (Asked Global)) (old new : List (AnswerSender Sent)) : Type 0 where
   pub answers : List Sent
   pub asked : commands_of answers ≡ commands
   pub answered : HaveAnswered old answers new
   pub run : HasRun base (stage_of f) (stage_of g) commands answers
-  pub served : AreServed base f g commands answers
+  pub served : AreServed base t f g commands answers
 
--- what became durable was published or not, and each command was answered by its outcome
-pub record HavePublished (before durable list commands : List (Asked Global)) (outcomes : List (Outcome Global))
+-- What became durable was published, or that ran out of memory, and each command was answered by its outcome, at moment t. `was` and `now`
+-- count the publications tried before and after it.
+pub record HavePublished (t : Tick) (was now : Attempts) (before durable list commands : List (Asked Global)) (outcomes : List (Outcome Global))
     (old new : List (AnswerSender Sent)) : Type 0 where
   pub all : Bool
   pub published : list ≡ cond all durable before
-  pub some : all ≡ false → length before < length durable
-  pub answered : HaveAnswered old (sent_by list all commands outcomes) new
+  pub some : all ≡ false → (length before < length durable) × WasOutOfMemory was now
+  pub answered : HaveAnswered old (sent_by t list all commands outcomes) new

@@ -1,5 +1,5 @@
--- What stays on the disk from a moment on.
-use Rattle.std.specs.Prelude.{◌≡◌, ◌⊎◌, ◌≤◌, true, List, ◌++◌}
+-- What stays on the disk from a moment on, and that each answer was durable before it was sent.
+use Rattle.std.specs.Prelude.{◌≡◌, ◌⊎◌, ◌≤◌, ℕ, true, List, ◌++◌, take}
 use Rattle.std.specs.declared.alloc.Global.{Global}
 use mathlib.Core.List.{IsPrefix}
 use Rattle.identity.specs.Numbers.{Byte}
@@ -9,6 +9,8 @@ use Rattle.centre_core.specs.Asked.{Asked}
 use Rattle.centre_core.specs.State.{State}
 use Rattle.centre_core.specs.History.{after}
 use Rattle.recovery.specs.OpensTo.{OpensTo}
+use Rattle.flusher.specs.Borne.{IsBorneAt}
+use Rattle.flusher.specs.Stages.{Sent}
 use Rattle.flusher.specs.Stored.{AreUnderWay}
 use Rattle.flusher.specs.View.{FlusherView}
 
@@ -24,3 +26,8 @@ pub record IsKeptSince {D : Type 0} (view : D → View) (base : State) (f : Flus
   pub durable : IsPrefix least f.durable
   pub earlier : t ≤ (view f.store.disk).moment
   pub since : (image : List (List Byte)) → (view f.store.disk).since t image → OpensFrom base least f image
+
+-- An answer was durable before it was sent: a prefix of the durable commands bears it out, and a stop at any moment since it was sent leaves an
+-- image that opens to that prefix, or to more.
+abbrev pub WasDurable : {D : Type 0} → (D → View) → State → FlusherView D → Sent → Type 0
+WasDurable view base f x = (place : ℕ) × IsBorneAt base f.durable place x × IsKeptSince view base f x.moment (take place f.durable)

@@ -1,6 +1,7 @@
 -- What a round does, over what is durable and what is published.
 use Rattle.std.specs.Prelude.{◌≡◌, ◌⊎◌, ◌≤◌, ◌+◌, ℕ, Bool, true, false, Option, List, [], ◌∷◌, ◌++◌, length, take, None, Some}
 use Rattle.std.specs.declared.alloc.Global.{Global}
+use Rattle.sector_disk.specs.Numbers.{Tick}
 use Rattle.centre_core.specs.Asked.{Asked}
 use Rattle.centre_core.specs.State.{State}
 use Rattle.centre_core.specs.Step.{last_at}
@@ -21,15 +22,16 @@ use Rattle.flusher.specs.declared.decision.Decision.TheVariants as decision
 
 -- ---- answers
 
--- an answer as it is sent: its command, the list that was published then, and the decision
+-- an answer as it is sent: that moment of the disk's clock, its command, the list that was published then, and the decision
 pub record Sent : Type 0 where
+  pub moment : Tick
   pub command : Asked Global
   pub published : List (Asked Global)
   pub decision : Decision
 
 -- an answer with these parts
-abbrev pub sent : Asked Global → List (Asked Global) → Decision → Sent
-sent c published d = record { command = c; published = published; decision = d }
+abbrev pub sent : Tick → Asked Global → List (Asked Global) → Decision → Sent
+sent t c published d = record { moment = t; command = c; published = published; decision = d }
 
 -- the list or the base keeps this number and reply of the command's station and sequence
 abbrev pub IsKeptOf : State → List (Asked Global) → Asked Global → ℕ → Option (List Bool) → Type 0
@@ -53,16 +55,16 @@ abbrev pub decision_of : Bool → Outcome Global → Decision
 decision_of all (outcome.Replied r) = decision.Replied (answer_from all r)
 decision_of all outcome.NoMemory = decision.NoMemory
 
--- the answers to these commands by these outcomes
-abbrev pub sent_by : List (Asked Global) → Bool → List (Asked Global) → List (Outcome Global) → List Sent
-sent_by published all [] os = []
-sent_by published all (c ∷ cs) [] = []
-sent_by published all (c ∷ cs) (o ∷ os) = sent c published (decision_of all o) ∷ sent_by published all cs os
+-- the answers to these commands by these outcomes, at one moment
+abbrev pub sent_by : Tick → List (Asked Global) → Bool → List (Asked Global) → List (Outcome Global) → List Sent
+sent_by t published all [] os = []
+sent_by t published all (c ∷ cs) [] = []
+sent_by t published all (c ∷ cs) (o ∷ os) = sent t c published (decision_of all o) ∷ sent_by t published all cs os
 
--- the answers to these commands, with one decision for all
-abbrev pub sent_to_all : List (Asked Global) → Decision → List (Asked Global) → List Sent
-sent_to_all published d [] = []
-sent_to_all published d (c ∷ cs) = sent c published d ∷ sent_to_all published d cs
+-- the answers to these commands, at one moment and with one decision for all
+abbrev pub sent_to_all : Tick → List (Asked Global) → Decision → List (Asked Global) → List Sent
+sent_to_all t published d [] = []
+sent_to_all t published d (c ∷ cs) = sent t c published d ∷ sent_to_all t published d cs
 
 -- the published list bears out the decision on each command, by its outcome
 abbrev pub BearsOutDecisions : State → List (Asked Global) → Bool → List (Asked Global) → List (Outcome Global) → Type 0

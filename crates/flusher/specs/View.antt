@@ -9,19 +9,19 @@ use Rattle.recovery.specs.Lives.{StoreView, view_of as store_view}
 use Rattle.flusher.specs.Shared.{commands_in}
 use Rattle.flusher.specs.Stages.{Sent, Stage, stage}
 use Rattle.flusher.specs.declared.publishing.Publication.{Publication}
-use Rattle.flusher.specs.declared.committing.Attempts.{Attempts}
+use Rattle.flusher.specs.Attempts.{Tries, tries}
 use Rattle.flusher.specs.declared.committing.Committer.{Committer}
 use Rattle.flusher.specs.declared.flusher.Flusher.{Flusher}
 
 -- The taker of the queue; the published commands, and the durable ones; the channels, one for each station; the store; how many commits
--- were tried, and whether the last one was out of memory; and for each station whether its end was taken.
+-- were tried, and how many publications, and whether the last one was out of memory; and for each station whether its end was taken.
 pub record FlusherView (D : Type 0) : Type 0 where
   pub taker : Taking
   pub published : List (Asked Global)
   pub durable : List (Asked Global)
   pub senders : List (AnswerSender Sent)
   pub store : StoreView Global D
-  pub attempts : Attempts
+  pub attempts : Tries
   pub ended : List Bool
 
 -- all that is durable: what the publisher has, and what it does not have yet
@@ -36,19 +36,19 @@ view_of f = record {
   durable = durable_of f.publication;
   senders = f.senders.items;
   store = store_view f.committer.store;
-  attempts = f.committer.attempts;
+  attempts = tries f.committer.attempts f.publication.attempts;
   ended = f.ended.items;
 }
 
--- how far the centre has come: what is published and durable, its store, and how its commits were tried
+-- how far the centre has come: what is published and durable, its store, and how its commits and publications were tried
 pub record Progress (D : Type 0) : Type 0 where
   pub published : List (Asked Global)
   pub durable : List (Asked Global)
   pub store : StoreView Global D
-  pub attempts : Attempts
+  pub attempts : Tries
 
 -- progress with these parts
-abbrev pub progress : {D : Type 0} → List (Asked Global) → List (Asked Global) → StoreView Global D → Attempts → Progress D
+abbrev pub progress : {D : Type 0} → List (Asked Global) → List (Asked Global) → StoreView Global D → Tries → Progress D
 progress published durable store attempts = record { published = published; durable = durable; store = store; attempts = attempts }
 
 -- how far this flusher has come
@@ -57,7 +57,7 @@ progress_of f = progress f.published f.durable f.store f.attempts
 
 -- the same, from its parts
 abbrev pub progress_by : {J D : Type 0} {g : Ghosts D} → Publication J → Committer D g → Progress D
-progress_by p c = progress p.publisher.published (durable_of p) (store_view c.store) c.attempts
+progress_by p c = progress p.publisher.published (durable_of p) (store_view c.store) (tries c.attempts p.attempts)
 
 -- whether a checkpoint is under way in a store that is not broken
 abbrev pub is_checking : {D : Type 0} → StoreView Global D → Bool

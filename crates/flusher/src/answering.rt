@@ -9,11 +9,11 @@ ghost use Rattle.flusher.specs.Answerings.{HaveAnswered};
 ghost use Rattle.flusher.specs.Batches.{AreWithin};
 
 use crate::decision::Decision;
-use crate::publishing::Shown;
+use crate::publishing::{Shown, Stamp};
 use crate::response::{Response, decision_of};
 use answers::AnswerSender;
 use recovery::{Outcome, StoreFault};
-use snapshots::{Centre, Published};
+use snapshots::Centre;
 use station_queue::SharedCommand;
 use std::alloc::Global;
 use std::collections::VecDeque;
@@ -23,20 +23,23 @@ use std::sync::Wait;
 fn answer_one<J: Centre, R: Wait>(
     rt: &R,
     senders: &mut Vec<AnswerSender<Response<J>>>,
-    published: &Published<J>,
+    stamp: &Stamp<J>,
     command: SharedCommand,
     decision: Decision,
 )
     requires station { (0 < (arc_value command).station) × ((arc_value command).station ≤ length senders.old.items) }
-    requires borne_out { BearsOutDecision J.base published.now (arc_value command) decision }
+    requires borne_out { BearsOutDecision J.base stamp.now.published (arc_value command) decision }
     requires short { HasShortDecision decision }
-    ensures { HaveAnswered senders.old.items (sent (arc_value command) published.now decision ∷ []) senders.new.items }
+    ensures { HaveAnswered senders.old.items (sent stamp.now.moment.tick (arc_value command) stamp.now.published decision ∷ []) senders.new.items }
 {
     let station = usize::from(command.station.number());
+    let published = stamp.published.copy();
+    let moment = stamp.moment.copy();
     let response = Response {
         command,
-        published: published.copy(),
+        published,
         decision,
+        moment,
     };
     senders[station - 1].send(rt, response);
 }
@@ -50,11 +53,11 @@ pub(crate) fn answer_all<J: Centre, R: Wait>(
     outcomes: Vec<Outcome<Global>>,
 )
     requires stations { AreWithin (length senders.old.items) (commands_in batch.old.items) }
-    requires borne_out { BearsOutDecisions J.base shown.now.published shown.now.all (commands_in batch.old.items) outcomes.items }
+    requires borne_out { BearsOutDecisions J.base shown.now.stamp.published shown.now.all (commands_in batch.old.items) outcomes.items }
     requires each { length outcomes.items ≡ length batch.old.items }
     requires short { AreShort outcomes.items }
     ensures answered { HaveAnswered senders.old.items
-        (sent_by shown.now.published shown.now.all (commands_in batch.old.items) outcomes.items) senders.new.items }
+        (sent_by shown.now.stamp.moment.tick shown.now.stamp.published shown.now.all (commands_in batch.old.items) outcomes.items) senders.new.items }
     ensures done { batch.new.items ≡ [] }
     ensures room { deque_capacity batch.new ≡ deque_capacity batch.old }
 {
@@ -64,7 +67,7 @@ pub(crate) fn answer_all<J: Centre, R: Wait>(
             return;
         };
         let decision = decision_of(shown.all, outcome);
-        answer_one(rt, senders, &shown.published, command, decision);
+        answer_one(rt, senders, &shown.stamp, command, decision);
     }
 }
 
@@ -81,16 +84,17 @@ fn decision_for_all(fault: Option<StoreFault>) -> Decision
 pub(crate) fn answer_all_alike<J: Centre, R: Wait>(
     rt: &R,
     senders: &mut Vec<AnswerSender<Response<J>>>,
-    published: &Published<J>,
+    stamp: &Stamp<J>,
     fault: Option<StoreFault>,
     batch: &mut VecDeque<SharedCommand>,
 )
     requires stations { AreWithin (length senders.old.items) (commands_in batch.old.items) }
-    ensures answered { HaveAnswered senders.old.items (sent_to_all published.now (decision_for_all fault) (commands_in batch.old.items)) senders.new.items }
+    ensures answered { HaveAnswered senders.old.items
+        (sent_to_all stamp.now.moment.tick stamp.now.published (decision_for_all fault) (commands_in batch.old.items)) senders.new.items }
     ensures done { batch.new.items ≡ [] }
     ensures room { deque_capacity batch.new ≡ deque_capacity batch.old }
 {
     while let Some(command) = batch.pop_front() {
-        answer_one(rt, senders, published, command, decision_for_all(fault));
+        answer_one(rt, senders, stamp, command, decision_for_all(fault));
     }
 }

@@ -74,6 +74,7 @@ fn end_publisher<J: Centre, R: Wait>(rt: &R, publication: Publication<J>) {
     let Publication {
         publisher,
         unpublished: _,
+        attempts: _,
     } = publication;
     publisher.close(rt);
 }

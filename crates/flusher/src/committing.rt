@@ -8,17 +8,40 @@ ghost use Rattle.flusher.specs.Attempts.{HasAttempted, IsNext};
 ghost use Rattle.flusher.specs.Short.{AreShort};
 ghost use Rattle.flusher.specs.Batches.{FailsByDisk, HasMadeRoom, HasTried, HoldsImages};
 
+use crate::moment::Moment;
 use centre_core::laws::{in_range, registers};
 use centre_core::{Command, Register};
 use recovery::{Outcome, Store, StoreFault};
 use sector_disk::Disk;
 use std::alloc::Global;
 
-/// How many commits were tried, and whether the last one was out of memory. After the greatest number it counts from 0 again.
+/// How many commits, or publications, were tried, and whether the last one was out of memory. After the greatest number it counts from 0
+/// again.
 #[derive(Drop)]
 pub struct Attempts {
     count: u64,
     refused: bool,
+}
+
+impl Attempts {
+    /// None was tried.
+    pub(crate) fn none() -> Attempts {
+        Attempts {
+            count: 0,
+            refused: false,
+        }
+    }
+
+    /// After one more. `refused`: it was out of memory.
+    pub(crate) fn after(&self, refused: bool) -> Attempts
+        ensures counted { IsNext self.now.count result.count }
+        ensures exact { result.refused ≡ refused }
+    {
+        Attempts {
+            count: next(self.count),
+            refused,
+        }
+    }
 }
 
 /// A store that commits, and the count of its attempts.
@@ -37,10 +60,7 @@ impl<D: Disk> Committer<D> {
         Committer {
             store,
             alloc,
-            attempts: Attempts {
-                count: 0,
-                refused: false,
-            },
+            attempts: Attempts::none(),
         }
     }
 
@@ -49,6 +69,13 @@ impl<D: Disk> Committer<D> {
         ensures { MatchBool result (self.now.store.broken ≡ false) (self.now.store.broken ≡ true) }
     {
         self.store.register().is_some()
+    }
+
+    /// The moment now, by the disk's clock.
+    pub(crate) fn moment(&self) -> Moment
+        ensures { result.tick ≡ (D.view self.now.store.disk).moment }
+    {
+        Moment::of(&self.store)
     }
 
     /// Calls the store's `commit` once.
@@ -68,10 +95,7 @@ impl<D: Disk> Committer<D> {
         registers(register_of(&self.store));
         hold_ranges(commands);
         let done = self.store.commit(self.alloc, commands);
-        self.attempts = Attempts {
-            count: next(self.attempts.count),
-            refused: is_out_of_memory(&done),
-        };
+        self.attempts = self.attempts.after(is_out_of_memory(&done));
         done
     }
 

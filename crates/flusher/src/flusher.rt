@@ -68,7 +68,7 @@ impl<J: Centre, D: Disk> Flusher<J, D> {
     pub fn round<R: Wait, T: Gate>(&mut self, rt: &R, gate: &T)
         requires settled { IsSettled J.base (view_of self.old) }
         ensures settled { IsSettled J.base (view_of self.new) }
-        ensures round { IsRound J.base (view_of self.old) (view_of self.new) }
+        ensures round { IsRound D.view J.base (view_of self.old) (view_of self.new) }
         ensures counted { (self.new.rounds ≡ self.old.rounds + 1) ⊎ ((self.old.rounds ≡ 2 ^ 64 - 1) × (self.new.rounds ≡ self.old.rounds)) }
 
         // Each image of the disk opens to what is durable. After a stop at any moment of the round it opens to the register
@@ -99,6 +99,7 @@ impl<J: Centre, D: Disk> Flusher<J, D> {
             commit_and_answer(rt, committer, publication, senders, room);
             return;
         }
-        refuse(rt, publication, senders, fault_of(sound), room);
+        let stamp = publication.stamp(committer.moment());
+        refuse(rt, &stamp, senders, fault_of(sound), room);
     }
 }

@@ -98,6 +98,7 @@ fn take_in<J: Centre>(
         command: theirs,
         published,
         decision,
+        moment: _,
     } = response;
     if !theirs.same(command) {
         return Answer::Closed;

@@ -10,7 +10,7 @@ ghost use Rattle.flusher.specs.Served.{IsSettled};
 ghost use Rattle.flusher.specs.View.{view_of};
 
 use crate::batch::{MOST, Room};
-use crate::committing::{Committer, register_of};
+use crate::committing::{Attempts, Committer, register_of};
 use crate::flusher::Flusher;
 use crate::publishing::Publication;
 use crate::response::Response;
@@ -240,6 +240,7 @@ pub fn open_centre<J: Centre, D: Disk, R: Wait>(
     let publication = Publication {
         publisher,
         unpublished,
+        attempts: Attempts::none(),
     };
     let flusher = Flusher {
         taker,

@@ -5,6 +5,8 @@ ghost use Rattle.centre_core.specs.Histories.{IsHistory};
 ghost use Rattle.flusher.specs.Shared.{commands_in};
 ghost use Rattle.flusher.specs.Batches.{accepted_by};
 
+use crate::committing::Attempts;
+use crate::moment::Moment;
 use centre_core::Reply;
 use recovery::Outcome;
 use snapshots::{Centre, Published, Publisher};
@@ -13,18 +15,26 @@ use std::alloc::Global;
 use std::collections::VecDeque;
 use std::sync::Wait;
 
-/// The publisher, and the durable commands that it does not have yet. There is room for 64 of these.
+/// The publisher, the durable commands that it does not have yet, and the count of its publications. There is room for 64 of these commands.
 pub struct Publication<J: Centre> {
     pub(crate) publisher: Publisher<J>,
     pub(crate) unpublished: VecDeque<SharedCommand>,
+    pub(crate) attempts: Attempts,
     pub ghost room: { 64 ≤ deque_capacity unpublished },
     pub ghost within: { length publisher.published ≤ length publisher.appended },
 }
 
-/// What is published when answers are sent, and whether that is all that is durable.
+/// What goes with each answer: the list that is published when it is sent, and that moment of the disk's clock.
+#[derive(Drop)]
+pub(crate) struct Stamp<J: Centre> {
+    pub(crate) published: Published<J>,
+    pub(crate) moment: Moment,
+}
+
+/// The stamp of the answers to what was committed, and whether all that is durable is published then.
 #[derive(Drop)]
 pub(crate) struct Shown<J: Centre> {
-    pub(crate) published: Published<J>,
+    pub(crate) stamp: Stamp<J>,
     pub(crate) all: bool,
 }
 
@@ -51,10 +61,11 @@ fn publish_all<J: Centre, R: Wait>(
 }
 
 impl<J: Centre> Publication<J> {
-    ghost use Rattle.std.specs.Prelude.{◌≡◌, ◌≤◌, ◌<◌, [], true, false, length, MatchBool};
+    ghost use Rattle.std.specs.Prelude.{◌≡◌, ◌≤◌, ◌<◌, [], true, false, not, length, MatchBool};
     ghost use Rattle.std.specs.VecDeque.{deque_capacity};
     ghost use Rattle.centre_core.specs.Histories.{IsHistory};
     ghost use Rattle.flusher.specs.Shared.{commands_in};
+    ghost use Rattle.flusher.specs.Attempts.{HasFailedNext, IsAtMostNext, IsNext, WasOutOfMemory};
     ghost use Rattle.flusher.specs.Batches.{accepted_by};
     ghost use Rattle.flusher.specs.View.{durable_of};
 
@@ -66,6 +77,20 @@ impl<J: Centre> Publication<J> {
         self.unpublished.is_empty() && self.publisher.is_caught_up()
     }
 
+    // Publishes all that is durable, and counts it. False if memory ran out; then nothing new is published.
+    fn publish_all<R: Wait>(&mut self, rt: &R) -> bool
+        requires { IsHistory J.base (durable_of self.old) }
+        ensures durable { durable_of self.new ≡ durable_of self.old }
+        ensures published { MatchBool result ((self.new.publisher.published ≡ self.new.publisher.appended) × (self.new.unpublished.items ≡ []))
+            (self.new.publisher.published ≡ self.old.publisher.published) }
+        ensures counted { IsNext self.old.attempts.count self.new.attempts.count }
+        ensures exact { self.new.attempts.refused ≡ not result }
+    {
+        let done = publish_all(rt, &mut self.publisher, &mut self.unpublished);
+        self.attempts = self.attempts.after(!done);
+        done
+    }
+
     /// Publishes what an earlier round left, unless the disk has failed. It returns whether all that is durable is published
     /// then.
     pub(crate) fn catch_up<R: Wait>(&mut self, rt: &R, sound: bool) -> bool
@@ -75,6 +100,8 @@ impl<J: Centre> Publication<J> {
             ((self.new.publisher.published ≡ self.new.publisher.appended) × (self.new.unpublished.items ≡ []) × (sound ≡ true))
             (self.new.publisher.published ≡ self.old.publisher.published) }
         ensures lagging { result ≡ false → sound ≡ true → self.old.publisher.published ≡ durable_of self.old → ⊥ }
+        ensures refused { result ≡ false → sound ≡ true → WasOutOfMemory self.old.attempts self.new.attempts }
+        ensures tried { IsAtMostNext self.old.attempts self.new.attempts }
     {
         if !sound {
             return false;
@@ -82,7 +109,7 @@ impl<J: Centre> Publication<J> {
         if self.is_caught_up() {
             return true;
         }
-        publish_all(rt, &mut self.publisher, &mut self.unpublished)
+        self.publish_all(rt)
     }
 
     /// Keeps the copies of the commands that were accepted, and drops the others.
@@ -94,6 +121,7 @@ impl<J: Centre> Publication<J> {
         requires empty { self.old.unpublished.items ≡ [] }
         requires few { length copies.old.items ≤ 64 }
         ensures publisher { self.new.publisher ≡ self.old.publisher }
+        ensures attempts { self.new.attempts ≡ self.old.attempts }
         ensures kept { commands_in self.new.unpublished.items ≡ accepted_by (commands_in copies.old.items) outcomes.now }
         ensures done { copies.new.items ≡ [] }
         ensures room { deque_capacity copies.new ≡ deque_capacity copies.old }
@@ -101,19 +129,29 @@ impl<J: Centre> Publication<J> {
         keep_accepted(&mut self.unpublished, copies, outcomes);
     }
 
+    /// The stamp of answers that are sent at this moment.
+    pub(crate) fn stamp(&self, moment: Moment) -> Stamp<J>
+        ensures { (result.published ≡ self.now.publisher.published) × (result.moment ≡ moment) }
+    {
+        Stamp {
+            published: self.publisher.published(),
+            moment,
+        }
+    }
+
     /// Publishes what was just kept, if anything was. `all` is false only if something was, and memory ran out.
-    pub(crate) fn publish_new<R: Wait>(&mut self, rt: &R) -> Shown<J>
+    pub(crate) fn publish_new<R: Wait>(&mut self, rt: &R, moment: Moment) -> Shown<J>
         requires history { IsHistory J.base (durable_of self.old) }
         requires level { self.old.publisher.published ≡ self.old.publisher.appended }
         ensures durable { durable_of self.new ≡ durable_of self.old }
         ensures published { MatchBool result.all (self.new.publisher.published ≡ durable_of self.new)
             ((self.new.publisher.published ≡ self.old.publisher.published) × (0 < length (commands_in self.old.unpublished.items))) }
-        ensures shown { result.published ≡ self.new.publisher.published }
+        ensures refused { result.all ≡ false → HasFailedNext self.old.attempts self.new.attempts }
+        ensures stamp { (result.stamp.published ≡ self.new.publisher.published) × (result.stamp.moment ≡ moment) }
     {
-        let all = self.unpublished.is_empty()
-            || publish_all(rt, &mut self.publisher, &mut self.unpublished);
+        let all = self.unpublished.is_empty() || self.publish_all(rt);
         Shown {
-            published: self.publisher.published(),
+            stamp: self.stamp(moment),
             all,
         }
     }

@@ -3,6 +3,7 @@ ghost use Rattle.std.specs.Prelude.{◌≡◌};
 ghost use Rattle.flusher.specs.Stages.{decision_of};
 
 use crate::decision::Decision;
+use crate::moment::Moment;
 use centre_core::Reply;
 use recovery::Outcome;
 use snapshots::{Centre, Published};
@@ -10,12 +11,13 @@ use station_queue::SharedCommand;
 use std::alloc::Global;
 use std::marker::Model;
 
-/// An answer as it is sent: with its command, and the list that was published then.
+/// An answer as it is sent: with its command, the list that was published then, and that moment of the disk's clock.
 #[derive(Drop)]
 pub struct Response<J: Centre> {
     pub(crate) command: SharedCommand,
     pub(crate) published: Published<J>,
     pub(crate) decision: Decision,
+    pub(crate) moment: Moment,
 }
 
 impl<J: Centre> Model for Response<J> {
@@ -26,7 +28,7 @@ impl<J: Centre> Model for Response<J> {
 
     ghost Value = { Sent };
 
-    ghost view = { λ r. sent (arc_value r.command) r.published r.decision };
+    ghost view = { λ r. sent r.moment.tick (arc_value r.command) r.published r.decision };
 
     ghost invariant = { λ r. IsHistory J.base r.published × BearsOutDecision J.base r.published (arc_value r.command) r.decision
         × HasShortDecision r.decision };

@@ -25,7 +25,7 @@ impl<J: Centre, D: Disk> Flusher<J, D> {
     pub fn run<R: Wait, T: Gate>(&mut self, rt: &R, gate: &T)
         requires settled { IsSettled J.base (view_of self.old) }
         ensures settled { IsSettled J.base (view_of self.new) }
-        ensures rounds { AreRounds J.base (view_of self.old) (view_of self.new) }
+        ensures rounds { AreRounds D.view J.base (view_of self.old) (view_of self.new) }
 
         // Each image of the disk opens to what is durable. After a stop at any moment of the run it opens to what was durable
         // at some moment of the run, and to no less than was durable at the end of the round before. Only a failure of the disk

@@ -68,6 +68,7 @@ impl<J: Centre> Session<J> {
     ghost use Rattle.std.specs.Prelude.{◌≡◌, ◌≤◌, ◌⊎◌, ◌∷◌, ◌++◌, [], All, IfOk, IsErrOf, OnErr, OnOk, length, vec_capacity, vec_len};
     ghost use mathlib.Core.List.{IsPrefix};
     ghost use Rattle.centre_core.specs.History.{after};
+    ghost use Rattle.centre_core.specs.Histories.{IsHistory};
     ghost use Rattle.centre_core.specs.Queries.{AsksForList, answer_to};
     ghost use Rattle.listings.specs.Texts.{LacksRoom, listing_text};
     ghost use Rattle.snapshots.specs.declared.viewer.ReadFault.TheVariants.{Closed, NoMemory};
@@ -161,8 +162,8 @@ impl<J: Centre> Session<J> {
         refuse_all(answers, commands.len() - put);
     }
 
-    /// The answer to a query after a list of commands, kept under `alloc`, with the length of that list. The list begins
-    /// with all that the session has seen. It never waits. `NoMemory` comes only where the answer is a list; the session
+    /// The answer to a query after a list of commands, kept under `alloc`, with the length of that list. Each of them was
+    /// accepted in its turn, and the list begins with all that the session has seen. It never waits. `NoMemory` comes only where the answer is a list; the session
     /// may then have seen more. After `Closed` it has seen no more than before.
     pub fn read<C: Allocator + Copy>(
         &mut self,
@@ -171,6 +172,7 @@ impl<J: Centre> Session<J> {
     ) -> Result<(QueryAnswer<C>, u64), ReadFault>
         ensures answer { IfOk result (λ r. (r.0 ≡ answer_to (after J.base self.new.viewer) query.now) × (r.1 ≡ length self.new.viewer)) }
         ensures later { IsPrefix self.old.viewer self.new.viewer }
+        ensures history { OnOk result (IsHistory J.base self.new.viewer) }
         ensures memory { IsErrOf result NoMemory → AsksForList query.now }
         ensures closed { IsErrOf result Closed → self.new.viewer ≡ self.old.viewer }
 
@@ -180,8 +182,8 @@ impl<J: Centre> Session<J> {
         self.viewer.read(alloc, query)
     }
 
-    /// Adds the text of a listing after a list of commands to `out`. The list begins with all that the session has seen. It
-    /// never waits. If it fails, `out` is unchanged. `NoMemory` comes only where the text has no room; the session may then have
+    /// Adds the text of a listing after a list of commands to `out`. Each of them was accepted in its turn, and the list begins
+    /// with all that the session has seen. It never waits. If it fails, `out` is unchanged. `NoMemory` comes only where the text has no room; the session may then have
     /// seen more. After `Closed` it has seen no more than before.
     pub fn list<C: Allocator + Copy>(
         &mut self,
@@ -190,6 +192,7 @@ impl<J: Centre> Session<J> {
     ) -> Result<(), ReadFault>
         ensures listed { OnOk result (out.new.items ≡ out.old.items ++ listing_text (after J.base self.new.viewer) listing.now) }
         ensures later { IsPrefix self.old.viewer self.new.viewer }
+        ensures history { OnOk result (IsHistory J.base self.new.viewer) }
         ensures memory { IsErrOf result NoMemory → LacksRoom (vec_len out.old) (vec_capacity out.old) (after J.base self.new.viewer) listing.now }
         ensures closed { IsErrOf result Closed → self.new.viewer ≡ self.old.viewer }
         ensures unlisted { OnErr result (out.new.items ≡ out.old.items) }

@@ -2,6 +2,7 @@
 use Rattle.std.specs.Prelude.{Some, slice_get}
 use Rattle.std.specs.List.{AllZip}
 use Rattle.std.proofs.Common.{◌≡◌, ℕ, zero, suc, List, [], ◌∷◌, refl, subst}
+use Rattle.sector_disk.specs.Disk.{View}
 use Rattle.centre_core.specs.State.{State}
 use Rattle.flusher.specs.declared.session.Ended.{Ended}
 use Rattle.flusher.specs.declared.session.Session.{Session}
@@ -35,5 +36,5 @@ module _ {J D : Type 0} (f g : FlusherView D) where
       still_sessions f g same ended (finished_sessions f (c ∷ d ∷ []) ended finished later)
 
   -- a round keeps the sessions
-  pub after_round : (base : State) (ended : List (Ended J)) → IsRound base f g → AreSessionsOf f ended → AreSessionsOf g ended
+  pub after_round : {view : D → View} (base : State) (ended : List (Ended J)) → IsRound view base f g → AreSessionsOf f ended → AreSessionsOf g ended
   after_round base ended round are = still_sessions f g (ends_still base f f g (same_ends f) round) ended are

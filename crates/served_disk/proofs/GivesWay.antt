@@ -12,7 +12,7 @@ use Rattle.listings.specs.Texts.{is_line}
 use Rattle.listings.specs.declared.listing.Listing.{Listing}
 use Rattle.listings.specs.declared.listing.Listing.TheVariants as listing
 use Rattle.console.specs.declared.line.Line.{Line}
-use Rattle.console.specs.declared.line.Line.TheVariants.{Silent, Bad, Apply, Ask, Print}
+use Rattle.console.specs.declared.line.Line.TheVariants.{Silent, Bad, Apply, Ask, Print, Mark, OwnStation, Forbidden}
 use Rattle.console.specs.declared.answer.Answer.{Answer}
 use Rattle.console.specs.declared.answer.Answer.TheVariants as answer
 use Rattle.console.specs.Answer.{is_list, IsLine, IsOneLine}
@@ -37,6 +37,9 @@ module _ {A : Type 0} where
   query_outage s q (answer.Replied sequence reply) long is = absurd is
   query_outage s q (answer.CommandOutage sequence word) long is = absurd is
   query_outage s q (answer.Listed lines) long is = absurd is
+  query_outage s q (answer.Marked word) long is = absurd is
+  query_outage s q (answer.OwnStation station) long is = absurd is
+  query_outage s q (answer.Forbidden sequence) long is = absurd is
 
   short : (a b : Answer A) → a ≡ b → IsLine b → IsLine a
   short a b same is = subst (λ (c : Answer A). IsLine c) (sym same) is
@@ -47,6 +50,9 @@ module _ {A : Type 0} where
   gives_way s (Apply c) a none long is = absurd (long (short a _ is tt))
   gives_way s (Ask q) a none long is = query_outage s q a long is
   gives_way s (Print l) a none long is = absurd none
+  gives_way s (Mark word) a none long is = absurd (long (short a _ is tt))
+  gives_way s (OwnStation station) a none long is = absurd (long (short a _ is tt))
+  gives_way s (Forbidden sequence) a none long is = absurd (long (short a _ is tt))
 
   pub shown : (s : State) (whole out : List ℕ) (troubled : Bool) (a : Answer A) → ShowsReading s (reading 1 whole) a × HasNoListing A (reading 1 whole) → IsTextOf a out troubled → IsShown A s whole out troubled
   shown s whole out troubled a is (inl answered) = record { given = a; answers = is.0; written = answered.written; trouble = answered.trouble }

@@ -1,5 +1,5 @@
 -- What `check` prints of a disk: a line for each side, or for each damaged sector of it and for what it loses, and one for the whole.
-use Rattle.std.specs.Prelude.{◌≡◌, ◌||◌, Bool, true, false, not, List, [], ◌∷◌, ◌++◌, Ok, Err, codes, decimal}
+use Rattle.std.specs.Prelude.{◌≡◌, ◌||◌, Bool, true, false, not, List, ◌++◌, Ok, Err, codes, decimal}
 use Rattle.std.specs.List.{flat_map}
 use Rattle.sector_disk.specs.Numbers.{Byte, Sector}
 use Rattle.checkpoint.specs.declared.side.Side.{Side}

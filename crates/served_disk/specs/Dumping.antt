@@ -3,17 +3,18 @@ use Rattle.std.specs.Prelude.{◌⊎◌, List, Option, codes}
 use Rattle.std.specs.Io.KnownBytes.{Appends}
 use Rattle.centre_core.specs.State.{IsState, State}
 use Rattle.centre_core.specs.StateRanges.{StateInRange}
+use Rattle.sector_disk.specs.Disk.{View}
 use Rattle.sector_disk.specs.Numbers.{Byte}
 use Rattle.file_disk.specs.declared.fault.OpenCause.TheVariants.{Other}
-use Rattle.recovery.specs.Opening.{Fails, IsOfOpening as IsOfStoreOpening}
-use Rattle.recovery.specs.Opens.{opens}
+use Rattle.recovery.specs.Opening.{IsOfOpening as IsOfStoreOpening}
 use Rattle.recovery.specs.OpensTo.{OpensTo}
 use Rattle.register_text.specs.Dump.{register_bytes}
 use Rattle.served_disk.specs.declared.dumping.DiskDumpFault.{DiskDumpFault}
 use Rattle.served_disk.specs.declared.dumping.DiskDumpFault.TheVariants as dump
 use Rattle.served_disk.specs.declared.fault.Fault.{Fault}
-use Rattle.served_disk.specs.Faults.{Names}
+use Rattle.served_disk.specs.Faults.{IsOfDump, Names}
 use Rattle.served_disk.specs.Making.{IsOfOpening}
+use Rattle.served_disk.specs.Refusals.{IsUnopened}
 
 -- the text of this register was written once, after what was there
 pub record IsDumped (before after : Option (List Byte)) (s : State) : Type 0 where
@@ -27,10 +28,14 @@ pub record IsDumpedBy (A : Type 0) (honest : Type 0) (image : List (List Byte)) 
   pub kept : honest → OpensTo A register image
   pub dumped : IsDumped before after register
 
--- what the image opens to, where its register was not dumped: this fault, or a register whose text was not written
-abbrev pub IsUndumped : (A : Type 0) → List (List Byte) → DiskDumpFault → Type 0
-IsUndumped A image (dump.Opening fault) = Fails fault (opens A image)
-IsUndumped A image (dump.Writing fault) = (register : State) × OpensTo A register image
+-- the disk was not opened, for this reason; or, if it is honest, it opens to a register whose text was not written
+abbrev pub IsUndumped : (A : Type 0) → View → View → DiskDumpFault → Type 0
+IsUndumped A old new (dump.Opening fault) = IsUnopened A old new fault
+IsUndumped A old new (dump.Writing fault) = old.honest → (register : State) × OpensTo A register old.reads
+
+-- the fault that is reported for one of which this holds
+abbrev pub ReportsDump : (DiskDumpFault → Type 0) → Fault → Type 0
+ReportsDump P fault = (reason : DiskDumpFault) × P reason × IsOfDump reason fault
 
 -- a fault of opening is one that an opening may have
 abbrev pub IsOfDumping : DiskDumpFault → Type 0

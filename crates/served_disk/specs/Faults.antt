@@ -63,10 +63,12 @@ fault_text fault.Memory = codes "fault: memory\n"
 fault_text fault.Epochs = codes "fault: epochs\n"
 fault_text (fault.Twice name) = codes "fault: " ++ name.now ++ codes " is named twice\n"
 fault_text fault.TooMany = codes "fault: more files than stations\n"
+fault_text (fault.NotServed station) = codes "fault: station " ++ decimal station ++ codes " of --orders is not served\n"
+fault_text fault.HalfLeftOut = codes "fault: only one of IN and OUT is -\n"
 fault_text (fault.DumpLine line cause) = dump_line_text line (dump_cause_text cause)
 fault_text (fault.DumpCut line) = dump_line_text line (codes "cut")
 
--- 2 for files that no run may have, 3 for settings and a dump, 4 for a file; 5 for what is on a disk, for the device and for memory
+-- 2 for files and orders that no run may have, 3 for settings and a dump, 4 for a file; 5 for what is on a disk, for the device and for memory
 abbrev pub fault_status : Fault → ℕ
 fault_status fault.Settings = 3
 fault_status (fault.File name cause) = 4
@@ -78,6 +80,8 @@ fault_status fault.Memory = 5
 fault_status fault.Epochs = 5
 fault_status (fault.Twice name) = 2
 fault_status fault.TooMany = 2
+fault_status (fault.NotServed station) = 2
+fault_status fault.HalfLeftOut = 2
 fault_status (fault.DumpLine line cause) = 3
 fault_status (fault.DumpCut line) = 3
 

@@ -1,5 +1,7 @@
 -- Why the files of a run's stations are not served.
-use Rattle.std.specs.Prelude.{◌≡◌, ◌⊎◌, ◌-◌, List, MatchBool, None, Some, slice_get}
+use Rattle.std.specs.Prelude.{◌≡◌, ◌⊎◌, ◌-◌, ◌&&◌, ◌||◌, Bool, not, codes, filter, find, if◌then◌else◌, map, nat_lt, List, [], MatchBool, None, Option, Some, slice_get, ℕ}
+use Rattle.std.specs.List.{list_any}
+use Rattle.std.specs.Str.{bytes_eq}
 use Rattle.std.specs.Borrow.{Bor}
 use Rattle.std.specs.declared.io.ErrorKind.{ErrorKind}
 use Rattle.sector_disk.specs.Numbers.{Byte}
@@ -28,3 +30,33 @@ IsNotRead kind name is = MatchBool (is_memory kind) (is ≡ fault.Memory) (Names
 abbrev pub IsOfFiles : List (Bor (List Byte)) → Fault → Type 0
 IsOfFiles names is =
     (is ≡ fault.Memory) ⊎ ((place : Place) × (name : Bor (List Byte)) × (kind : ErrorKind) × IsAt names place name × IsNotRead kind name.now is)
+
+-- the first station that is named for orders and has no place among so many that are served
+abbrev pub not_served : ℕ → List ℕ → Option ℕ
+not_served served named = find (λ station. nat_lt served station) named
+
+-- ---- pairs of IN and OUT
+
+-- the word leaves a station out
+abbrev pub is_dash : List Byte → Bool
+is_dash name = bytes_eq name (codes "-")
+
+-- the station of this IN and OUT is left out
+abbrev pub is_left_out : List Byte → List Byte → Bool
+is_left_out input output = is_dash input && is_dash output
+
+-- what is known of the bytes that the station's reader has left, and of those that its writer holds: if it is left out, there are none
+abbrev pub known_of : List Byte → List Byte → Option (List Byte)
+known_of input output = if is_left_out input output then Some [] else None
+
+-- only one of the two is left out
+abbrev pub is_half_left_out : List Byte → List Byte → Bool
+is_half_left_out input output = (is_dash input || is_dash output) && not (is_left_out input output)
+
+-- a station has one of them
+abbrev pub has_half : List (Bor (List Byte) × Bor (List Byte)) → Bool
+has_half named = list_any (λ (pair : Bor (List Byte) × Bor (List Byte)). is_half_left_out pair.0.now pair.1.now) named
+
+-- the names of IN of the stations that are not left out
+abbrev pub inputs_in : List (Bor (List Byte) × Bor (List Byte)) → List (List Byte)
+inputs_in named = map (λ (pair : Bor (List Byte) × Bor (List Byte)). pair.0.now) (filter (λ (pair : Bor (List Byte) × Bor (List Byte)). not (is_left_out pair.0.now pair.1.now)) named)

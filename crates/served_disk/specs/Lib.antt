@@ -4,6 +4,8 @@ pub mod Faults
 pub mod Files
 pub mod Loading
 pub mod Making
+pub mod Named
+pub mod Refusals
 pub mod Showing
 pub mod Checking
 pub mod Losses

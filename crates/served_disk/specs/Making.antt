@@ -1,11 +1,17 @@
 -- Which disk a settings text asks for.
-use Rattle.std.specs.Prelude.{◌≡◌, List, IsUtf8}
+use Rattle.std.specs.Prelude.{◌≡◌, List, IsUtf8, Ok}
 use Rattle.toml.specs.Errors.{IsBlank}
 use Rattle.registration.specs.Limits.{AreLimits}
+use Rattle.centre_core.specs.State.{State}
+use Rattle.sector_disk.specs.Disk.{View}
 use Rattle.sector_disk.specs.Numbers.{Byte}
 use Rattle.file_disk.specs.declared.fault.OpenCause.TheVariants.{Exists}
 use Rattle.checkpoint.specs.declared.layout.Layout.{Layout}
+use Rattle.checkpoint.specs.declared.side.Side.TheVariants as side
 use Rattle.checkpoint.specs.Half.{IsHalfSize}
+use Rattle.checkpoint.specs.Layout.{half_at}
+use Rattle.checkpoint.specs.OnSide.{InEach}
+use Rattle.recovery.specs.Opens.{opening, opens}
 use Rattle.settings.specs.declared.reading.Settings.{Settings}
 use Rattle.settings.specs.Reading.{Holds}
 use Rattle.served_disk.specs.declared.fault.Fault.{Fault}
@@ -33,6 +39,11 @@ AsksForNone text fault.Settings = (settings : Settings) → ¬ Holds text settin
 AsksForNone text fault.BadGeometry = (settings : Settings) × Holds text settings × ¬ AreInRange settings
 AsksForNone text fault.Memory = IsUtf8 text × ¬ IsBlank text
 AsksForNone text other = ⊥
+
+-- An honest disk, which after a stop at any moment too opens to this register, of epoch 1 and on side A.
+pub record IsMadeFor (A : Type 0) (layout : Layout) (register : State) (disk : View) : Type 0 where
+  pub honest : disk.honest
+  pub opens_to : InEach disk (λ image. opens A image ≡ Ok (opening layout side.A 1 (half_at layout side.A) register))
 
 -- why a disk in a file of this name was not made: the file was not made, the device failed, or memory ran out
 abbrev pub IsOfMaking : List Byte → Fault → Type 0

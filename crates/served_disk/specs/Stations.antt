@@ -9,6 +9,7 @@ use Rattle.sector_disk.specs.Numbers.{Byte}
 use Rattle.sector_disk.specs.Disk.{View}
 use Rattle.centre_core.specs.State.{State}
 use Rattle.recovery.specs.Lives.{StoreView}
+use Rattle.stations.specs.declared.orders.Orders.{Orders}
 use Rattle.stations.specs.declared.port.Port.{Port}
 use Rattle.stations.specs.Served.{HasServed}
 use Rattle.served_disk.specs.declared.fault.Fault.{Fault}
@@ -22,11 +23,11 @@ abbrev pub Run : Type 0 → Type 0
 Run O = O × Result Ran RunFault
 
 -- Stations 1, 2 and so on were served over a store that was opened, each with the lines and to the writer of its port. It is given
--- whether that broke the store.
-pub record AreServed {D I O : Type 0} (disk : D → View) (J : Type 0) (base : State) (unread : I → Option (List Byte)) (written : O → Option (List Byte))
+-- which of them may give orders, and whether that broke the store.
+pub record AreServed {D I O : Type 0} (disk : D → View) (J : Type 0) (base : State) (orders : Orders) (unread : I → Option (List Byte)) (written : O → Option (List Byte))
     (opened : StoreView Global D) (ports : List (Port I O)) (served : Served O) : Type 0 where
   pub store : StoreView Global D
-  pub runs : HasServed disk J base unread written opened ports store served.runs.items
+  pub runs : HasServed disk J base orders unread written opened ports store served.runs.items
   pub broken : served.is_broken ≡ store.broken
 
 -- the text of this station and those after it: each with the name of its file, and its answers

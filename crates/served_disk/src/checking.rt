@@ -1,35 +1,33 @@
 //! A check of a disk, as lines.
-ghost use Rattle.std.specs.Prelude.{◌≡◌, ◌⊎◌, ◌++◌, ◌∷◌, ◌<◌, ◌≤◌, ℕ, List, [], IfErr, IfOk, IfSome, IsErrOf, None, OnOk};
+ghost use Rattle.std.specs.Prelude.{◌≡◌, ◌⊎◌, ◌++◌, ◌∷◌, ◌<◌, ◌≤◌, ℕ, [], IfErr, IfOk, IfSome, IsErrOf, None, OnOk};
 ghost use Rattle.std.specs.List.{flat_map};
 ghost use Rattle.std.specs.Io.KnownBytes.{Appends};
 ghost use Rattle.sector_disk.specs.Disk.{HasFailed};
 ghost use Rattle.sector_disk.specs.Reading.{before_reads};
 ghost use Rattle.sector_disk.specs.declared.record.Call.TheVariants.{Sync};
-ghost use Rattle.file_disk.specs.Disk.{calls_of};
+ghost use Rattle.file_disk.specs.Disk.{IsNew, calls_of, file_view};
 ghost use Rattle.checkpoint.specs.Layout.{disk_size};
-ghost use Rattle.recovery.specs.declared.checking.Checked.{Checked};
-ghost use Rattle.recovery.specs.declared.damaged.Damage.{Damage};
 ghost use Rattle.recovery.specs.declared.fault.StoreFault.TheVariants.{DiskFault};
-ghost use Rattle.recovery.specs.Checking.{IsDamagedAt, IsOfCheck, checked_in, opened_by};
+ghost use Rattle.recovery.specs.Checking.{IsDamagedAt, IsOfCheck, opened_by};
 ghost use Rattle.recovery.specs.Damage.{IsOfDamage, IsOfState};
-ghost use Rattle.recovery.specs.Opening.{Fails};
 ghost use Rattle.served_disk.specs.Calls.{IsOnlyRead, IsReadAtMost};
 ghost use Rattle.served_disk.specs.Checking.{IsReported, IsReportedBy, IsReportedOn, checked_text, damage_line, has_damage, is_well, kind_text};
 ghost use Rattle.served_disk.specs.Checking.{last_line, opening_word, reason_end, reason_text, sector_text, side_lines, whole_line};
 ghost use Rattle.served_disk.specs.Making.{IsOfMaking, IsOfOpening};
+ghost use Rattle.served_disk.specs.Named.{IsRefused, OnDisk};
+ghost use Rattle.served_disk.specs.Refusals.{IsUnchecked, Reports};
 
 use crate::losses::print_losses;
 use crate::opening::adopt_disk;
 use crate::printing::{LinePart, print};
 use crate::showing::ROOM;
 use crate::showing_figures::{print_figures, side_text};
-use crate::{CountedDisk, Refused, Tally};
+use crate::{CountedDisk, DiskFiles, Refused, Tally};
 use checkpoint::Side;
-use file_disk::{FileDisk, HostFile};
+use file_disk::{FileDisk, SectorFile};
 use recovery::{Checked, Damage, Figures, Kind, Reason, SideState, StoreFault, check, damage_of};
 use sector_disk::Disk;
 use std::alloc::{AllocError, Allocator, Global};
-use std::fs::{File, Files};
 use std::io;
 use std::io::Write;
 use std::rt::Clock;
@@ -263,18 +261,18 @@ fn report_on<A: Allocator + Copy + Drop, D: Disk>(
 /// Checks both sides of a disk. The disk is synced once, and then only read. It is returned, also after a fault.
 ///
 /// # Errors
-/// There is no layout on the disk, the device failed, or out of memory. Damage is no error: the text reports it.
+/// There is no layout on the disk, the device has failed, or out of memory, which hides no damage to the side that was read last.
+/// Damage is no error: the text reports it.
 pub fn check_on<A: Allocator + Copy + Drop, D: Disk>(
     alloc: A,
     disk: D,
 ) -> Result<(CheckReport<A>, D), (StoreFault, D)>
     ensures reported { IfOk result (λ r. IsReportedBy A (D.view disk).honest (D.view disk).reads r.0.text.items r.0.well) }
-    ensures refused { IfErr result (λ e. (D.view disk).honest → Fails e.0 (checked_in A (D.view disk).reads)) }
+    ensures refused { IfErr result (λ e. IsUnchecked A (D.view disk) (D.view e.1) e.0) }
     ensures calls { IfOk result (λ r. before_reads (D.view r.1).calls ≡ (D.view disk).calls ++ Sync ∷ []) }
     ensures some_calls { IfErr result (λ e. (before_reads (D.view e.1).calls ≡ (D.view disk).calls ++ Sync ∷ [])
         ⊎ ((e.0 ≡ DiskFault) × ((D.view e.1).calls ≡ (D.view disk).calls))) }
     ensures kinds { IfErr result (λ e. IsOfCheck e.0) }
-    ensures fault { IfErr result (λ e. e.0 ≡ DiskFault → HasFailed (D.view disk) (D.view e.1)) }
 {
     let mut disk = disk;
     let checked = match check(alloc, &mut disk) {
@@ -292,20 +290,24 @@ pub fn check_on<A: Allocator + Copy + Drop, D: Disk>(
 ///
 /// # Errors
 /// Those of `open_disk` but `Damaged`. `Memory` also comes if there is none for a text of 1,024 bytes.
-pub fn check_disk<'a, R: Files<File = File> + Clock + Eprint>(
+pub fn check_disk<'a, F: SectorFile, R: DiskFiles<F> + Clock + Eprint>(
     rt: &R,
     alloc: Global,
     name: &'a str,
     tally: &Tally<'_, R>,
-) -> Result<(CheckReport<Global>, FileDisk<HostFile>), Refused<'a>>
-    ensures reported { IfOk result (λ r. (checked : Checked) × (a : List Damage) × (b : List Damage) × IsReported checked a b r.0.text.items r.0.well) }
+) -> Result<(CheckReport<Global>, FileDisk<F>), Refused<'a, F>>
+    ensures reported { IfOk result (λ r. OnDisk (R.adopted rt.now name.now) IsNew
+        (λ disk. IsReportedBy Global (file_view F.view disk).honest (file_view F.view disk).reads r.0.text.items r.0.well)) }
+    ensures refused { IfErr result (λ e. IsRefused (R.adopted rt.now name.now) IsNew name.now
+        (λ old new. Reports (IsUnchecked Global (file_view F.view old) (file_view F.view new))) e.fault e.disk) }
     ensures calls { IfOk result (λ r. IsOnlyRead (calls_of r.1)) }
     ensures some_calls { IfErr result (λ e. IfSome e.disk (λ disk. IsReadAtMost e.fault (calls_of disk))) }
     ensures kinds { IfErr result (λ e. IsOfOpening name.now e.fault) }
     ensures none { IfErr result (λ e. e.disk ≡ None → IsOfMaking name.now e.fault) }
 {
-    let disk = CountedDisk::new(adopt_disk(rt, name)?, tally);
-    match check_on(alloc, disk) {
+    let disk = adopt_disk(rt, name)?;
+    let counted = CountedDisk::new(disk, tally);
+    match check_on(alloc, counted) {
         Ok((report, disk)) => Ok((report, disk.into_inner())),
         Err((fault, disk)) => Err(Refused::of_store(fault, disk.into_inner())),
     }

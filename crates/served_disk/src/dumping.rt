@@ -2,24 +2,23 @@
 ghost use Rattle.std.specs.Prelude.{◌≡◌, ◌⊎◌, ◌++◌, ◌∷◌, [], IfErr, IfOk, IfSome, None, OnOk};
 ghost use Rattle.sector_disk.specs.Reading.{before_reads};
 ghost use Rattle.sector_disk.specs.declared.record.Call.TheVariants.{Sync};
-ghost use Rattle.file_disk.specs.Disk.{calls_of};
-ghost use Rattle.centre_core.specs.State.{State};
+ghost use Rattle.file_disk.specs.Disk.{IsNew, calls_of, file_view};
 ghost use Rattle.recovery.specs.declared.fault.StoreFault.{StoreFault};
 ghost use Rattle.recovery.specs.declared.fault.StoreFault.TheVariants.{DiskFault};
 ghost use Rattle.served_disk.specs.Calls.{IsOnlyRead, IsReadAtMost};
-ghost use Rattle.served_disk.specs.Dumping.{IsDumped, IsDumpedBy, IsOfDiskDump, IsOfDumping, IsUndumped};
+ghost use Rattle.served_disk.specs.Dumping.{IsDumped, IsDumpedBy, IsOfDiskDump, IsOfDumping, IsUndumped, ReportsDump};
 ghost use Rattle.served_disk.specs.Making.{IsOfMaking};
+ghost use Rattle.served_disk.specs.Named.{IsRefused, OnDisk};
 
-use crate::Refused;
 use crate::opening::adopt_disk;
+use crate::{DiskFiles, Refused};
 use centre_core::Register;
 use centre_core::laws::registers;
-use file_disk::{FileDisk, HostFile};
+use file_disk::{FileDisk, SectorFile};
 use recovery::{Store, StoreFault};
 use register_text::{DumpFault, write_register};
 use sector_disk::Disk;
 use std::alloc::{Allocator, Global};
-use std::fs::{File, Files};
 use std::io::Write;
 
 /// Why the register on a disk was not dumped.
@@ -47,7 +46,8 @@ fn dump<A: Allocator + Clone, B: Allocator + Clone, W: Write>(
 /// after a fault.
 ///
 /// # Errors
-/// `Opening` for a fault of what is on the disk or of the device, and out of memory: nothing is written. `Writing` if memory
+/// `Opening` for a fault of what is on the disk, the device if it has failed, and out of memory, which hides no fault that was
+/// read: nothing is written. `Writing` if memory
 /// runs out afterwards or the writer fails: some of the text may be written.
 pub fn dump_on<A: Allocator + Copy + Drop, D: Disk, W: Write>(
     alloc: A,
@@ -55,7 +55,7 @@ pub fn dump_on<A: Allocator + Copy + Drop, D: Disk, W: Write>(
     out: &mut W,
 ) -> Result<D, (DiskDumpFault, D)>
     ensures dumped { IfOk result (λ d. IsDumpedBy A (D.view disk).honest (D.view disk).reads (W.contents out.old) (W.contents out.new)) }
-    ensures refused { IfErr result (λ e. (D.view disk).honest → IsUndumped A (D.view disk).reads e.0) }
+    ensures refused { IfErr result (λ e. IsUndumped A (D.view disk) (D.view e.1) e.0) }
     ensures unwritten { IfErr result (λ e. (fault : StoreFault) → e.0 ≡ DiskDumpFault.Opening fault → out.new ≡ out.old) }
     ensures calls { IfOk result (λ d. before_reads (D.view d).calls ≡ (D.view disk).calls ++ Sync ∷ []) }
     ensures some_calls { IfErr result (λ e. (before_reads (D.view e.1).calls ≡ (D.view disk).calls ++ Sync ∷ [])
@@ -79,13 +79,16 @@ pub fn dump_on<A: Allocator + Copy + Drop, D: Disk, W: Write>(
 ///
 /// # Errors
 /// Those of `open_disk`. `File` with `-` if the writer fails, and `Memory`.
-pub fn dump_disk<'a, R: Files<File = File>, W: Write>(
+pub fn dump_disk<'a, F: SectorFile, R: DiskFiles<F>, W: Write>(
     rt: &R,
     alloc: Global,
     name: &'a str,
     out: &mut W,
-) -> Result<FileDisk<HostFile>, Refused<'a>>
-    ensures dumped { IfOk result (λ disk. (register : State) × IsDumped (W.contents out.old) (W.contents out.new) register) }
+) -> Result<FileDisk<F>, Refused<'a, F>>
+    ensures dumped { IfOk result (λ d. OnDisk (R.adopted rt.now name.now) IsNew
+        (λ disk. IsDumpedBy Global (file_view F.view disk).honest (file_view F.view disk).reads (W.contents out.old) (W.contents out.new))) }
+    ensures refused { IfErr result (λ e. IsRefused (R.adopted rt.now name.now) IsNew name.now
+        (λ old new. ReportsDump (IsUndumped Global (file_view F.view old) (file_view F.view new))) e.fault e.disk) }
     ensures calls { IfOk result (λ disk. IsOnlyRead (calls_of disk)) }
     ensures some_calls { IfErr result (λ e. IfSome e.disk (λ disk. IsReadAtMost e.fault (calls_of disk))) }
     ensures kinds { IfErr result (λ e. IsOfDiskDump name.now e.fault) }

@@ -37,6 +37,10 @@ pub enum Fault<'a> {
     Twice(&'a str),
     /// The run has more files than the register has stations.
     TooMany,
+    /// The station of this number may give orders, but is not served.
+    NotServed(u16),
+    /// Only one of IN and OUT of a station is `-`.
+    HalfLeftOut,
     /// The line of this number of a dump can't be taken.
     DumpLine(u64, Cause),
     /// The dump is cut before the end of the line of this number.
@@ -115,13 +119,13 @@ impl<'a> Fault<'a> {
         }
     }
 
-    /// The exit status: 2 for files that no run may have, 3 for settings and a dump, 4 for a file; 5 for what is on a disk, for
+    /// The exit status: 2 for files and orders that no run may have, 3 for settings and a dump, 4 for a file; 5 for what is on a disk, for
     /// the device and for memory.
     pub fn status(&self) -> u8
         ensures { result ≡ fault_status self.now }
     {
         match self {
-            Fault::Twice(_) | Fault::TooMany => 2,
+            Fault::Twice(_) | Fault::TooMany | Fault::NotServed(_) | Fault::HalfLeftOut => 2,
             Fault::Settings | Fault::DumpLine(..) | Fault::DumpCut(_) => 3,
             Fault::File(..) => 4,
             _ => 5,
@@ -143,6 +147,11 @@ impl<'a> Fault<'a> {
             Fault::Epochs => print(out, &[LinePart::Text("fault: epochs\n")]),
             Fault::Twice(name) => print_twice(out, name),
             Fault::TooMany => print(out, &[LinePart::Text("fault: more files than stations\n")]),
+            Fault::NotServed(station) => print_not_served(out, *station),
+            Fault::HalfLeftOut => print(
+                out,
+                &[LinePart::Text("fault: only one of IN and OUT is -\n")],
+            ),
             Fault::DumpLine(line, cause) => print_dump_line(out, *line, dump_cause_text(*cause)),
             Fault::DumpCut(line) => print_dump_line(out, *line, "cut"),
         }
@@ -195,6 +204,17 @@ fn print_twice<W: Write>(out: &mut W, name: &str) -> io::Result<()>
         LinePart::Text("fault: "),
         LinePart::Text(name),
         LinePart::Text(" is named twice\n"),
+    ];
+    print(out, &parts)
+}
+
+fn print_not_served<W: Write>(out: &mut W, station: u16) -> io::Result<()>
+    ensures { OnOk result (Appends (W.contents out.old) (W.contents out.new) (codes "fault: station " ++ decimal station ++ codes " of --orders is not served\n")) }
+{
+    let parts = [
+        LinePart::Text("fault: station "),
+        LinePart::Number(u64::from(station)),
+        LinePart::Text(" of --orders is not served\n"),
     ];
     print(out, &parts)
 }

@@ -1,8 +1,9 @@
 //! The files of the stations of a run.
-ghost use Rattle.std.specs.Prelude.{◌≡◌, ◌≤◌, ◌<◌, None, OnOk, OnErr, IfErr, IfOk, length, false};
+ghost use Rattle.std.specs.Prelude.{◌≡◌, ◌≤◌, ◌<◌, None, Some, option_map, OnOk, OnErr, IfErr, IfOk, length, nat_lt, false};
+ghost use Rattle.std.specs.Option.{option_copied};
 ghost use Rattle.settings.specs.Naming.{first_twice, texts};
-ghost use Rattle.served_disk.specs.declared.fault.Fault.TheVariants.{Memory, TooMany};
-ghost use Rattle.served_disk.specs.Files.{IsNotRead, IsOfFiles, IsOfNames};
+ghost use Rattle.served_disk.specs.declared.fault.Fault.TheVariants.{Memory, NotServed, TooMany};
+ghost use Rattle.served_disk.specs.Files.{IsNotRead, IsOfFiles, IsOfNames, not_served};
 
 use crate::{Fault, PortNames, Progress, WatchedReader};
 use file_disk::OpenCause;
@@ -53,6 +54,34 @@ pub fn check_stations<'a, D: Disk>(store: &Store<Global, D>, files: usize) -> Re
         Ok(())
     } else {
         Err(Fault::TooMany)
+    }
+}
+
+/// Whether this station has no place among so many that are served.
+fn is_beyond(station: u16, served: usize) -> bool
+    ensures { result ≡ nat_lt served station }
+{
+    usize::from(station) > served
+}
+
+/// The first of these stations that has no place among so many.
+fn first_not_served(named: &[u16], served: usize) -> Option<&u16>
+    ensures { option_copied result ≡ not_served served named.now }
+{
+    named.iter().find(|station| is_beyond(**station, served))
+}
+
+/// Checks that each station is served that is named for orders. So many are served.
+///
+/// # Errors
+/// `NotServed` with the first that is not.
+pub fn check_orders<'a>(named: &[u16], served: usize) -> Result<(), Fault<'a>>
+    ensures served { OnOk result (not_served served named.now ≡ None) }
+    ensures refused { IfErr result (λ fault. option_map NotServed (not_served served named.now) ≡ Some fault) }
+{
+    match first_not_served(named, served) {
+        Some(station) => Err(Fault::NotServed(*station)),
+        None => Ok(()),
     }
 }
 

@@ -5,6 +5,7 @@
 
 mod checking;
 mod counted;
+mod disk_files;
 mod doorbell;
 mod dumping;
 mod fault;
@@ -30,14 +31,18 @@ mod watched;
 
 pub use checking::{CheckReport, check_disk, check_on, print_checked};
 pub use counted::{CountedDisk, CountedReader, CountedWriter};
+pub use disk_files::DiskFiles;
 pub use dumping::{DiskDumpFault, dump_disk, dump_on};
 pub use fault::Fault;
-pub use files::{FilePort, check_names, check_stations, file_names, not_read, open_files};
+pub use files::{
+    FilePort, check_names, check_orders, check_stations, file_names, not_read, open_files,
+};
 pub use loading::load_register;
 pub use making::{format_disk, layout_of, make_disk_with};
 pub use opening::open_disk;
 pub use pairs::{
-    Pair, PairPort, PairReader, PairWriter, inputs_of, name_ended, names_of, pairs_of, ports_of,
+    Pair, PairPort, PairReader, PairWriter, check_pairs, inputs_of, name_ended, names_of, pairs_of,
+    ports_of,
 };
 pub use port_names::PortNames;
 pub use printing::{print_formatted, print_loaded, print_station};

@@ -1,22 +1,24 @@
 //! A disk made for an empty register, or for one that is there.
 ghost use Rattle.std.specs.Prelude.{◌≡◌, ◌↔◌, IfErr, IfOk, IfSome, IsSome, None, Ok, Some, is_err, true};
-ghost use Rattle.file_disk.specs.Disk.{blank_calls, calls_of};
+ghost use Rattle.file_disk.specs.Disk.{calls_of, file_view};
+ghost use Rattle.centre_core.specs.State.{empty};
 ghost use Rattle.checkpoint.specs.Layout.{disk_size};
 ghost use Rattle.recovery.specs.Calls.{format_calls};
 ghost use Rattle.recovery.specs.FormatWith.{format_with_calls};
 ghost use Rattle.served_disk.specs.Faults.{of_store};
-ghost use Rattle.served_disk.specs.Calls.{IsPartlyMade, making_calls};
-ghost use Rattle.served_disk.specs.Making.{AreInRange, AsksFor, AsksForNone, IsFor, IsOfMaking};
+ghost use Rattle.served_disk.specs.Calls.{IsBlankOf, IsPartlyMade, making_calls};
+ghost use Rattle.served_disk.specs.Making.{AreInRange, AsksFor, AsksForNone, IsFor, IsMadeFor, IsOfMaking};
+ghost use Rattle.served_disk.specs.Named.{IsNoDisk, IsRefused, OnDisk};
+ghost use Rattle.served_disk.specs.Refusals.{IsUnmade};
 
-use crate::{Fault, Refused};
+use crate::{DiskFiles, Fault, Refused};
 use centre_core::Register;
 use checkpoint::Layout;
-use file_disk::{FileDisk, HostFile};
+use file_disk::{FileDisk, SectorFile};
 use recovery::{StoreFault, format, format_with};
 use registration::Limits;
 use settings::{Settings, read_settings};
 use std::alloc::Global;
-use std::fs::{File, Files};
 
 /// The layout for these numbers, if each is in its range.
 fn layout_for(settings: &Settings) -> Option<Layout>
@@ -47,27 +49,29 @@ pub fn layout_of<'a>(alloc: Global, text: &[u8]) -> Result<Layout, Fault<'a>>
 }
 
 /// A disk of zeros for this layout, in a new file of this name.
-fn blank_disk<'a, R: Files<File = File>>(
+fn blank_disk<'a, F: SectorFile, R: DiskFiles<F>>(
     rt: &R,
     layout: &Layout,
     name: &'a str,
-) -> Result<FileDisk<HostFile>, Refused<'a>>
-    ensures sectors { IfOk result (λ disk. disk.sectors ≡ disk_size layout.now) }
-    ensures calls { IfOk result (λ disk. calls_of disk ≡ blank_calls (disk_size layout.now)) }
+) -> Result<FileDisk<F>, Refused<'a, F>>
+    ensures gives { IfOk result (λ disk. R.created rt.now name.now (disk_size layout.now) (Ok disk)) }
+    ensures blank { IfOk result (IsBlankOf (disk_size layout.now)) }
+    ensures no_disk { IfErr result (λ e.
+        IsNoDisk (R.created rt.now name.now (disk_size layout.now)) (IsBlankOf (disk_size layout.now)) name.now e.fault e.disk) }
     ensures none { IfErr result (λ e. e.disk ≡ None) }
     ensures kinds { IfErr result (λ e. IsOfMaking name.now e.fault) }
 {
-    match FileDisk::<HostFile>::create(rt, name, layout.sectors()) {
+    match rt.create(name, layout.sectors()) {
         Ok(disk) => Ok(disk),
         Err(fault) => Err(Refused::of_file(fault, name)),
     }
 }
 
 /// The disk, if it was formatted.
-fn if_formatted<'a>(
-    disk: FileDisk<HostFile>,
+fn if_formatted<'a, F: SectorFile>(
+    disk: FileDisk<F>,
     done: Result<(), StoreFault>,
-) -> Result<FileDisk<HostFile>, Refused<'a>>
+) -> Result<FileDisk<F>, Refused<'a, F>>
     ensures ok { IfOk result (λ same. (done ≡ Ok tt) × (same ≡ disk)) }
     ensures refused { IfErr result (λ e. (e.disk ≡ Some disk) × IfErr done (λ fault. e.fault ≡ of_store fault)) }
     ensures err { IfErr result (λ e. is_err done ≡ true) }
@@ -82,19 +86,25 @@ fn if_formatted<'a>(
 /// disk. Nothing is written after the last sync.
 ///
 /// # Errors
-/// `File` if the file can't be made or exists already, `Device` and `Memory`. A file that could not be finished is left.
-pub fn format_disk<'a, R: Files<File = File>>(
+/// `File` if the file can't be made or exists already, `Device` and `Memory`. Once the file is made, only `Device` comes, if the
+/// disk has failed. A file that could not be finished is left.
+pub fn format_disk<'a, F: SectorFile, R: DiskFiles<F>>(
     rt: &R,
     layout: &Layout,
     name: &'a str,
-) -> Result<FileDisk<HostFile>, Refused<'a>>
+) -> Result<FileDisk<F>, Refused<'a, F>>
+    // If the disk in the file is honest, it opens to the empty register.
+    ensures made { IfOk result (λ disk. OnDisk (R.created rt.now name.now (disk_size layout.now)) (IsBlankOf (disk_size layout.now))
+        (λ blank. (file_view F.view blank).honest → IsMadeFor Global layout.now (empty layout.now.limits) (file_view F.view disk))) }
+    ensures refused { IfErr result (λ e. IsRefused (R.created rt.now name.now (disk_size layout.now)) (IsBlankOf (disk_size layout.now)) name.now
+        (λ old new. IsUnmade (file_view F.view old) (file_view F.view new)) e.fault e.disk) }
     ensures sectors { IfOk result (λ disk. disk.sectors ≡ disk_size layout.now) }
     ensures calls { IfOk result (λ disk. calls_of disk ≡ making_calls layout.now (format_calls layout.now)) }
     ensures some_calls { IfErr result (λ e. IfSome e.disk (λ disk. IsPartlyMade (making_calls layout.now (format_calls layout.now)) (calls_of disk))) }
     ensures kinds { IfErr result (λ e. IsOfMaking name.now e.fault) }
 {
     let mut disk = blank_disk(rt, layout, name)?;
-    let done = format::<Global, FileDisk<HostFile>>(&mut disk, layout);
+    let done = format::<Global, FileDisk<F>>(&mut disk, layout);
     if_formatted(disk, done)
 }
 
@@ -102,13 +112,19 @@ pub fn format_disk<'a, R: Files<File = File>>(
 ///
 /// # Errors
 /// Those of `format_disk`.
-pub fn make_disk_with<'a, R: Files<File = File>>(
+pub fn make_disk_with<'a, F: SectorFile, R: DiskFiles<F>>(
     rt: &R,
     layout: &Layout,
     register: &Register<Global>,
     name: &'a str,
-) -> Result<FileDisk<HostFile>, Refused<'a>>
+) -> Result<FileDisk<F>, Refused<'a, F>>
     requires limits { register.now.registered.limits ≡ layout.now.limits }
+
+    // If the disk in the file is honest, it opens to this register.
+    ensures made { IfOk result (λ disk. OnDisk (R.created rt.now name.now (disk_size layout.now)) (IsBlankOf (disk_size layout.now))
+        (λ blank. (file_view F.view blank).honest → IsMadeFor Global layout.now register.now (file_view F.view disk))) }
+    ensures refused { IfErr result (λ e. IsRefused (R.created rt.now name.now (disk_size layout.now)) (IsBlankOf (disk_size layout.now)) name.now
+        (λ old new. IsUnmade (file_view F.view old) (file_view F.view new)) e.fault e.disk) }
     ensures sectors { IfOk result (λ disk. disk.sectors ≡ disk_size layout.now) }
     ensures calls { IfOk result (λ disk. calls_of disk ≡ making_calls layout.now (format_with_calls layout.now register.now)) }
     ensures some_calls { IfErr result (λ e. IfSome e.disk (λ disk.

@@ -1,26 +1,30 @@
 //! The register on a disk in a file.
-ghost use Rattle.std.specs.Prelude.{◌≡◌, IfErr, IfOk, IfSome, None, false};
-ghost use Rattle.file_disk.specs.Disk.{IsNew, calls_of};
+ghost use Rattle.std.specs.Prelude.{◌≡◌, IfErr, IfOk, IfSome, None, Ok, false};
+ghost use Rattle.file_disk.specs.Disk.{IsNew, calls_of, file_view};
+ghost use Rattle.recovery.specs.Lives.{HasOpened, view_of};
 ghost use Rattle.served_disk.specs.Calls.{IsOnlyRead, IsReadAtMost};
 ghost use Rattle.served_disk.specs.Making.{IsOfMaking, IsOfOpening};
+ghost use Rattle.served_disk.specs.Named.{IsNoDisk, IsRefused, OnDisk};
+ghost use Rattle.served_disk.specs.Refusals.{IsUnopened, Reports};
 
-use crate::Refused;
-use file_disk::{FileDisk, HostFile};
+use crate::{DiskFiles, Refused};
+use file_disk::{FileDisk, SectorFile};
 use recovery::Store;
 use std::alloc::Global;
-use std::fs::{File, Files};
 
 /// The disk in the file of this name, which is kept locked. It has had no call.
-pub(crate) fn adopt_disk<'a, R: Files<File = File>>(
+pub(crate) fn adopt_disk<'a, F: SectorFile, R: DiskFiles<F>>(
     rt: &R,
     name: &'a str,
-) -> Result<FileDisk<HostFile>, Refused<'a>>
+) -> Result<FileDisk<F>, Refused<'a, F>>
+    ensures gives { IfOk result (λ disk. R.adopted rt.now name.now (Ok disk)) }
     ensures new { IfOk result IsNew }
+    ensures no_disk { IfErr result (λ e. IsNoDisk (R.adopted rt.now name.now) IsNew name.now e.fault e.disk) }
     ensures kinds { IfErr result (λ e. IsOfOpening name.now e.fault) }
     ensures of_file { IfErr result (λ e. IsOfMaking name.now e.fault) }
     ensures none { IfErr result (λ e. e.disk ≡ None) }
 {
-    match FileDisk::<HostFile>::adopt(rt, name) {
+    match rt.adopt(name) {
         Ok(disk) => Ok(disk),
         Err(fault) => Err(Refused::of_file(fault, name)),
     }
@@ -31,12 +35,17 @@ pub(crate) fn adopt_disk<'a, R: Files<File = File>>(
 ///
 /// # Errors
 /// `File` if the file can't be opened or another process holds it; `Unformatted`, `BadGeometry` or `Damaged` for what is on the
-/// disk; `Device` and `Memory`.
-pub fn open_disk<'a, R: Files<File = File>>(
+/// disk; `Device` only if the file can't be taken as a disk or the disk has failed, and `Memory` in place of no fault that was read.
+pub fn open_disk<'a, F: SectorFile, R: DiskFiles<F>>(
     rt: &R,
     alloc: Global,
     name: &'a str,
-) -> Result<Store<Global, FileDisk<HostFile>>, Refused<'a>>
+) -> Result<Store<Global, FileDisk<F>>, Refused<'a, F>>
+    // If the disk in the file is honest, the store has the register that it opens to.
+    ensures opened { IfOk result (λ store. OnDisk (R.adopted rt.now name.now) IsNew
+        (λ disk. (file_view F.view disk).honest → HasOpened Global (file_view F.view) disk (view_of store))) }
+    ensures refused { IfErr result (λ e. IsRefused (R.adopted rt.now name.now) IsNew name.now
+        (λ old new. Reports (IsUnopened Global (file_view F.view old) (file_view F.view new))) e.fault e.disk) }
     ensures sound { IfOk result (λ store. store.broken ≡ false) }
     ensures calls { IfOk result (λ store. IsOnlyRead (calls_of store.disk)) }
     ensures some_calls { IfErr result (λ e. IfSome e.disk (λ disk. IsReadAtMost e.fault (calls_of disk))) }

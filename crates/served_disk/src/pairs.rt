@@ -1,7 +1,9 @@
 //! The pairs of files of a service: what a station's lines are read from, and what its answers are written to.
-ghost use Rattle.std.specs.Prelude.{◌≡◌, IfOk, IfErr, length};
+ghost use Rattle.std.specs.Prelude.{◌≡◌, ◌++◌, ◌∷◌, [], false, true, IfOk, IfErr, OnErr, OnOk, length};
 ghost use Rattle.std.specs.Io.{ReadsAtMost, WritesAtMost};
-ghost use Rattle.served_disk.specs.declared.fault.Fault.TheVariants.{Memory};
+ghost use Rattle.settings.specs.Naming.{texts};
+ghost use Rattle.served_disk.specs.Files.{has_half, inputs_in, is_half_left_out, is_left_out};
+ghost use Rattle.served_disk.specs.declared.fault.Fault.TheVariants.{HalfLeftOut, Memory};
 
 use crate::{Fault, PortNames};
 use stations::Port;
@@ -69,7 +71,21 @@ impl OpenFiles {
     }
 }
 
-/// The files IN and OUT of a station. Its reader opens both before its first line. Only the station's thread uses them until that
+/// Whether the station of this IN and OUT is left out: it has no lines and no answers.
+fn is_left_out(input: &str, output: &str) -> bool
+    ensures { result ≡ is_left_out input.now output.now }
+{
+    input == "-" && output == "-"
+}
+
+/// Whether only one of the two is left out.
+fn is_half_left_out(input: &str, output: &str) -> bool
+    ensures { result ≡ is_half_left_out input.now output.now }
+{
+    (input == "-" || output == "-") && !is_left_out(input, output)
+}
+
+/// The files IN and OUT of a station. Its reader opens both before its first line, unless the station is left out. Only the station's thread uses them until that
 /// thread has ended, so nobody waits for the lock.
 #[derive(Drop)]
 pub struct Pair<'a> {
@@ -133,7 +149,7 @@ impl<'a> Pair<'a> {
     }
 }
 
-/// Reads from IN of a pair.
+/// Reads from IN of a pair. Of a station that is left out there is nothing to read.
 #[derive(Drop)]
 pub struct PairReader<'p, 'a, R> {
     rt: &'p R,
@@ -143,12 +159,19 @@ pub struct PairReader<'p, 'a, R> {
 }
 
 impl<'p, 'a, R: Wait> Read for PairReader<'p, 'a, R> {
+    ghost use Rattle.served_disk.specs.Files.{known_of};
+
+    ghost remaining = { λ reader. known_of reader.pair.now.input.now reader.pair.now.output.now };
+
     fn read(&mut self, buffer: &mut [u8]) -> io::Result<usize> {
+        if is_left_out(self.pair.input, self.pair.output) {
+            return Ok(0);
+        }
         self.pair.read(self.rt, self.host, buffer)
     }
 }
 
-/// Writes to OUT of a pair, which its reader has opened.
+/// Writes to OUT of a pair, which its reader has opened. Of a station that is left out nothing is written.
 #[derive(Drop)]
 pub struct PairWriter<'p, 'a, R> {
     rt: &'p R,
@@ -156,7 +179,14 @@ pub struct PairWriter<'p, 'a, R> {
 }
 
 impl<'p, 'a, R: Wait> Write for PairWriter<'p, 'a, R> {
+    ghost use Rattle.served_disk.specs.Files.{known_of};
+
+    ghost contents = { λ writer. known_of writer.pair.now.input.now writer.pair.now.output.now };
+
     fn write(&mut self, bytes: &[u8]) -> io::Result<usize> {
+        if is_left_out(self.pair.input, self.pair.output) {
+            return Err(io::Error::from(ErrorKind::NotFound));
+        }
         self.pair.write(self.rt, bytes)
     }
 
@@ -185,21 +215,56 @@ pub fn pairs_of<'a>(alloc: Global, named: &[(&'a str, &'a str)]) -> Result<Vec<P
     Ok(pairs)
 }
 
-/// The names of IN of stations 1, 2 and so on.
+/// The names of IN of the stations that are not left out, in order.
 ///
 /// # Errors
 /// `Memory`.
 pub fn inputs_of<'a>(alloc: Global, named: &[(&'a str, &'a str)]) -> Result<Vec<&'a str>, Fault<'a>>
-    ensures all { IfOk result (λ inputs. length inputs.items ≡ length named.now) }
+    ensures named { IfOk result (λ inputs. texts inputs.items ≡ inputs_in named.now) }
     ensures refused { IfErr result (λ fault. fault ≡ Memory) }
 {
-    let Ok(mut inputs) = Vec::with_capacity(alloc, named.len()) else {
-        return Err(Fault::Memory);
-    };
-    for (input, _) in named {
-        inputs.push_reserved(*input);
+    let mut inputs = Vec::new(alloc);
+    for index in 0..named.len() {
+        push_input(&mut inputs, named[index])?;
     }
     Ok(inputs)
+}
+
+/// Adds the name of IN, unless the station is left out.
+fn push_input<'a>(inputs: &mut Vec<&'a str>, pair: (&'a str, &'a str)) -> Result<(), Fault<'a>>
+    ensures added { OnOk result (texts inputs.new.items ≡ texts inputs.old.items ++ inputs_in (pair.entry ∷ [])) }
+    ensures refused { IfErr result (λ fault. fault ≡ Memory) }
+{
+    if is_left_out(pair.0, pair.1) {
+        return Ok(());
+    }
+    match inputs.push(pair.0) {
+        Ok(()) => Ok(()),
+        Err(_) => Err(Fault::Memory),
+    }
+}
+
+/// Whether a station has `-` for only one of IN and OUT.
+fn any_half(named: &[(&str, &str)]) -> bool
+    ensures { result ≡ has_half named.now }
+{
+    named.iter().any(|pair| is_half_left_out(pair.0, pair.1))
+}
+
+/// Checks that no station has `-` for only one of IN and OUT.
+///
+/// # Errors
+/// `HalfLeftOut`, exactly if one has.
+pub fn check_pairs<'a>(named: &[(&'a str, &'a str)]) -> Result<(), Fault<'a>>
+    ensures whole { OnOk result (has_half named.now ≡ false) }
+    ensures half { OnErr result (has_half named.now ≡ true) }
+    ensures refused { IfErr result (λ fault. fault ≡ HalfLeftOut) }
+{
+    if any_half(named) {
+        Err(Fault::HalfLeftOut)
+    } else {
+        Ok(())
+    }
 }
 
 /// The ports of stations 1, 2 and so on.

@@ -39,14 +39,14 @@ pub fn serve_stations<
     V: Watch + Sync,
 >(
     rt: &R,
-    terms: ManyTerms,
+    terms: ManyTerms<'_>,
     store: Store<Global, D>,
     ports: Vec<Port<I, O>>,
     watch: &V,
 ) -> Result<Served<O>, Fault<'a>>
     requires sound { store.broken ≡ false }
     requires centre { (terms.log.seen.book ≡ J.book) × (store.register ≡ J.base) }
-    ensures served { IfOk result (AreServed D.view J J.base I.remaining O.contents (store_view store) ports.items) }
+    ensures served { IfOk result (AreServed D.view J J.base terms.entry.orders I.remaining O.contents (store_view store) ports.items) }
     ensures all { IfOk result (λ served. length served.runs.items ≡ length ports.items) }
     ensures fault { IfErr result (λ fault. fault ≡ Memory) }
 {

@@ -36,7 +36,8 @@ fn answer_query<A: Allocator + Copy, B: Allocator + Clone>(
     }
 }
 
-/// The answer to the only line, or the listing that it asks for. A command is no query, and so a bad line.
+/// The answer to the only line, or the listing that it asks for. A command is no query, and so a bad line; so are a mark and the
+/// question for the station, which ask no register.
 fn answer<A: Allocator + Copy, B: Allocator + Clone>(
     alloc: A,
     register: &Register<B>,
@@ -51,6 +52,9 @@ fn answer<A: Allocator + Copy, B: Allocator + Clone>(
         Ok(Line::Bad(fault)) => Ok(Answer::Bad(1, *fault)),
         Ok(Line::Ask(query)) => Ok(answer_query(alloc, register, query)),
         Ok(Line::Print(listing)) => Err(*listing),
+        Ok(Line::Mark(_) | Line::OwnStation(_) | Line::Forbidden(_)) => {
+            Ok(Answer::Bad(1, LineFault::Syntax))
+        }
         Ok(Line::Apply(_)) | Err(_) => Ok(Answer::Bad(1, LineFault::Syntax)),
     }
 }

@@ -2,26 +2,24 @@
 ghost use Rattle.std.specs.Prelude.{◌≡◌, ◌⊎◌, ◌++◌, ◌∷◌, [], IfErr, IfOk, IfSome, None, false};
 ghost use Rattle.sector_disk.specs.Reading.{before_reads};
 ghost use Rattle.sector_disk.specs.declared.record.Call.TheVariants.{Sync};
-ghost use Rattle.file_disk.specs.Disk.{calls_of};
-ghost use Rattle.centre_core.specs.State.{State};
-ghost use Rattle.recovery.specs.declared.figures.Figures.{Figures};
+ghost use Rattle.file_disk.specs.Disk.{IsNew, calls_of, file_view};
 ghost use Rattle.recovery.specs.declared.fault.StoreFault.TheVariants.{DiskFault};
 ghost use Rattle.recovery.specs.Figures.{figures_at};
 ghost use Rattle.recovery.specs.Lives.{view_of};
-ghost use Rattle.recovery.specs.Opens.{opens};
-ghost use Rattle.recovery.specs.Opening.{Fails, IsOfOpening as IsOfStoreOpening};
+ghost use Rattle.recovery.specs.Opening.{IsOfOpening as IsOfStoreOpening};
 ghost use Rattle.served_disk.specs.Calls.{IsOnlyRead, IsReadAtMost};
 ghost use Rattle.served_disk.specs.Making.{IsOfMaking, IsOfOpening};
+ghost use Rattle.served_disk.specs.Named.{IsRefused, OnDisk};
+ghost use Rattle.served_disk.specs.Refusals.{IsUnshown, Reports};
 ghost use Rattle.served_disk.specs.Showing.{IsShownBy, IsShownFor};
 
 use crate::opening::adopt_disk;
 use crate::showing_figures::show_figures;
-use crate::{Refused, Shown, show};
-use file_disk::{FileDisk, HostFile};
+use crate::{DiskFiles, Refused, Shown, show};
+use file_disk::{FileDisk, SectorFile};
 use recovery::{Store, StoreFault};
 use sector_disk::Disk;
 use std::alloc::{AllocError, Allocator, Global};
-use std::fs::{File, Files};
 
 /// Answers a line about a store that is not broken: `disk` by its figures, a query by its register.
 fn show_store<A: Allocator + Copy + Drop, D: Disk>(
@@ -42,14 +40,14 @@ fn show_store<A: Allocator + Copy + Drop, D: Disk>(
 /// is synced once, and then only read. It is returned, also after a fault.
 ///
 /// # Errors
-/// A fault of what is on the disk or of the device, and out of memory.
+/// A fault of what is on the disk, the device if it has failed, and out of memory, which hides no fault that was read.
 pub fn show_on<A: Allocator + Copy + Drop, D: Disk>(
     alloc: A,
     disk: D,
     line: &[u8],
 ) -> Result<(Shown<A>, D), (StoreFault, D)>
     ensures shown { IfOk result (λ r. IsShownBy A (D.view disk).honest (D.view disk).reads line.now r.0.text.items r.0.troubled) }
-    ensures refused { IfErr result (λ e. (D.view disk).honest → Fails e.0 (opens A (D.view disk).reads)) }
+    ensures refused { IfErr result (λ e. IsUnshown A (D.view disk) (D.view e.1) e.0) }
     ensures calls { IfOk result (λ r. before_reads (D.view r.1).calls ≡ (D.view disk).calls ++ Sync ∷ []) }
     ensures some_calls { IfErr result (λ e. (before_reads (D.view e.1).calls ≡ (D.view disk).calls ++ Sync ∷ [])
         ⊎ ((e.0 ≡ DiskFault) × ((D.view e.1).calls ≡ (D.view disk).calls))) }
@@ -68,14 +66,16 @@ pub fn show_on<A: Allocator + Copy + Drop, D: Disk>(
 ///
 /// # Errors
 /// Those of `open_disk`. `Memory` also comes if there is none for a text of 1,024 bytes.
-pub fn show_disk<'a, R: Files<File = File>>(
+pub fn show_disk<'a, F: SectorFile, R: DiskFiles<F>>(
     rt: &R,
     alloc: Global,
     name: &'a str,
     line: &[u8],
-) -> Result<(Shown<Global>, FileDisk<HostFile>), Refused<'a>>
-    ensures shown { IfOk result (λ r. (figures : Figures) × (register : State)
-        × IsShownFor Global figures register line.now r.0.text.items r.0.troubled) }
+) -> Result<(Shown<Global>, FileDisk<F>), Refused<'a, F>>
+    ensures shown { IfOk result (λ r. OnDisk (R.adopted rt.now name.now) IsNew
+        (λ disk. IsShownBy Global (file_view F.view disk).honest (file_view F.view disk).reads line.now r.0.text.items r.0.troubled)) }
+    ensures refused { IfErr result (λ e. IsRefused (R.adopted rt.now name.now) IsNew name.now
+        (λ old new. Reports (IsUnshown Global (file_view F.view old) (file_view F.view new))) e.fault e.disk) }
     ensures calls { IfOk result (λ r. IsOnlyRead (calls_of r.1)) }
     ensures some_calls { IfErr result (λ e. IfSome e.disk (λ disk. IsReadAtMost e.fault (calls_of disk))) }
     ensures kinds { IfErr result (λ e. IsOfOpening name.now e.fault) }

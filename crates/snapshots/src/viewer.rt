@@ -3,6 +3,7 @@ ghost use Rattle.std.specs.Prelude.{◌≡◌, ◌⊎◌, ◌<◌, ◌≤◌, �
 ghost use Rattle.std.specs.Prelude.{vec_capacity, vec_len};
 ghost use mathlib.Core.List.{IsPrefix};
 ghost use Rattle.centre_core.specs.History.{after};
+ghost use Rattle.centre_core.specs.Histories.{IsHistory};
 ghost use Rattle.centre_core.specs.Queries.{AsksForList, answer_to};
 ghost use Rattle.listings.specs.Texts.{LacksRoom, listing_text};
 ghost use Rattle.snapshots.specs.declared.viewer.ReadFault.TheVariants.{Closed, NoMemory};
@@ -52,6 +53,7 @@ fn answered<J: Centre, C: Allocator + Copy>(
     asked: (&Query, C),
 ) -> (Viewer<J>, Option<(Result<QueryAnswer<C>, AllocError>, u64)>)
     ensures later { IsPrefix viewer result.0 }
+    ensures history { IfSome result.1 (λ r. IsHistory J.base result.0) }
     ensures answer { IfSome result.1 (λ r. IfOk r.0 (λ answer. answer ≡ answer_to (after J.base result.0) asked.entry.0.now)) }
     ensures count { IfSome result.1 (λ r. r.1 ≡ length result.0) }
     ensures memory { IfSome result.1 (λ r. OnErr r.0 (AsksForList asked.entry.0.now)) }
@@ -74,6 +76,7 @@ fn answer_in_place<J: Centre, C: Allocator + Copy>(
     asked: (&Query, C),
 ) -> Option<(Result<QueryAnswer<C>, AllocError>, u64)>
     ensures later { IsPrefix viewer.old viewer.new }
+    ensures history { IfSome result (λ r. IsHistory J.base viewer.new) }
     ensures answer { IfSome result (λ r. IfOk r.0 (λ answer. answer ≡ answer_to (after J.base viewer.new) asked.entry.0.now)) }
     ensures count { IfSome result (λ r. r.1 ≡ length viewer.new) }
     ensures memory { IfSome result (λ r. OnErr r.0 (AsksForList asked.entry.0.now)) }
@@ -88,6 +91,7 @@ fn listed<J: Centre, C: Allocator + Copy>(
     asked: (&Listing, Vec<u8, C>),
 ) -> (Viewer<J>, (Vec<u8, C>, Result<(), ReadFault>))
     ensures later { IsPrefix viewer result.0 }
+    ensures history { OnOk result.1.1 (IsHistory J.base result.0) }
     ensures listed { OnOk result.1.1 (result.1.0.items ≡ asked.entry.1.items ++ listing_text (after J.base result.0) asked.entry.0.now) }
     ensures memory { IsErrOf result.1.1 NoMemory → LacksRoom (vec_len asked.entry.1) (vec_capacity asked.entry.1) (after J.base result.0) asked.entry.0.now }
     ensures closed { IsErrOf result.1.1 Closed → result.0 ≡ viewer }
@@ -111,6 +115,7 @@ fn list_in_place<J: Centre, C: Allocator + Copy>(
     listing: &Listing,
 ) -> (Vec<u8, C>, Result<(), ReadFault>)
     ensures later { IsPrefix viewer.old viewer.new }
+    ensures history { OnOk result.1 (IsHistory J.base viewer.new) }
     ensures listed { OnOk result.1 (result.0.items ≡ text.items ++ listing_text (after J.base viewer.new) listing.now) }
     ensures memory { IsErrOf result.1 NoMemory → LacksRoom (vec_len text) (vec_capacity text) (after J.base viewer.new) listing.now }
     ensures closed { IsErrOf result.1 Closed → viewer.new ≡ viewer.old }
@@ -125,8 +130,8 @@ fn list_in_place<J: Centre, C: Allocator + Copy>(
 }
 
 impl<J: Centre> Viewer<J> {
-    /// The answer to a query after a list of commands, kept under `alloc`, with the length of that list. The list begins
-    /// with all that the viewer has seen or learnt. It never waits. `NoMemory` comes only where the answer is a list; the
+    /// The answer to a query after a list of commands, kept under `alloc`, with the length of that list. Each of them was
+    /// accepted in its turn, and the list begins with all that the viewer has seen or learnt. It never waits. `NoMemory` comes only where the answer is a list; the
     /// viewer may then have seen more. After `Closed` nothing has changed.
     pub fn read<C: Allocator + Copy>(
         &mut self,
@@ -134,6 +139,7 @@ impl<J: Centre> Viewer<J> {
         query: &Query,
     ) -> Result<(QueryAnswer<C>, u64), ReadFault>
         ensures later { IsPrefix self.old self.new }
+        ensures history { OnOk result (IsHistory J.base self.new) }
         ensures answer { IfOk result (λ r. (r.0 ≡ answer_to (after J.base self.new) query.now) × (r.1 ≡ length self.new)) }
         ensures memory { IsErrOf result NoMemory → AsksForList query.now }
         ensures closed { IsErrOf result Closed → self.new ≡ self.old }
@@ -147,8 +153,8 @@ impl<J: Centre> Viewer<J> {
         }
     }
 
-    /// Adds the text of a listing after a list of commands to `out`. The list begins with all that the viewer has seen or
-    /// learnt. It never waits. If it fails, `out` is unchanged. `NoMemory` comes only where the text has no room; the viewer may
+    /// Adds the text of a listing after a list of commands to `out`. Each of them was accepted in its turn, and the list
+    /// begins with all that the viewer has seen or learnt. It never waits. If it fails, `out` is unchanged. `NoMemory` comes only where the text has no room; the viewer may
     /// then have seen more. After `Closed` nothing has changed.
     pub fn list<C: Allocator + Copy>(
         &mut self,
@@ -156,6 +162,7 @@ impl<J: Centre> Viewer<J> {
         out: &mut Vec<u8, C>,
     ) -> Result<(), ReadFault>
         ensures later { IsPrefix self.old self.new }
+        ensures history { OnOk result (IsHistory J.base self.new) }
         ensures listed { OnOk result (out.new.items ≡ out.old.items ++ listing_text (after J.base self.new) listing.now) }
         ensures memory { IsErrOf result NoMemory → LacksRoom (vec_len out.old) (vec_capacity out.old) (after J.base self.new) listing.now }
         ensures closed { IsErrOf result Closed → self.new ≡ self.old }

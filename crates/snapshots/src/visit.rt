@@ -2,6 +2,7 @@
 ghost use Rattle.std.specs.Prelude.{◌≡◌, ◌≤◌, ◌++◌, length, IfOk, OnErr, OnOk, MatchResult, vec_capacity, vec_len};
 ghost use mathlib.Core.List.{IsPrefix};
 ghost use Rattle.centre_core.specs.History.{after};
+ghost use Rattle.centre_core.specs.Histories.{IsHistory};
 ghost use Rattle.centre_core.specs.Queries.{AsksForList, answer_to};
 ghost use Rattle.listings.specs.Texts.{LacksRoom, listing_text};
 ghost use Rattle.snapshots.specs.Views.{IsSnapshot};
@@ -29,12 +30,13 @@ impl<J: Centre> Model for Visit<J> {
     ghost use Rattle.std.specs.declared.alloc.Global.{Global};
     ghost use Rattle.centre_core.specs.Asked.{Asked};
     ghost use Rattle.centre_core.specs.History.{after};
+    ghost use Rattle.centre_core.specs.Histories.{IsHistory};
 
     ghost Value = { List (Asked Global) };
 
     ghost view = { λ v. v.list };
 
-    ghost invariant = { λ v. (v.base ≡ J.base.count) × (v.inside.part.value.register ≡ after J.base v.list) };
+    ghost invariant = { λ v. (v.base ≡ J.base.count) × (v.inside.part.value.register ≡ after J.base v.list) × IsHistory J.base v.list };
 }
 
 impl<J: Centre> Visit<J> {
@@ -71,9 +73,10 @@ impl<J: Centre> Visit<J> {
         self.list.count()
     }
 
-    /// The viewer has seen the list of this copy.
+    /// The viewer has seen the list of this copy. Each command of it was accepted in its turn.
     pub fn leave(self) -> Viewer<J>
-        ensures { result ≡ self }
+        ensures viewer { result ≡ self }
+        ensures history { IsHistory J.base result }
     {
         let Visit { inside, list, base } = self;
         Viewer {

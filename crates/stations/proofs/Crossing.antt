@@ -16,4 +16,4 @@ pub done_send : (T O : RattleType) (g : centre.Ghosts T.Denot) → IsSend T → 
 done_send T O g s o = declared_send (done.the_type T O g) (ended_send T g s, (as_row_send (row_field O) o, (search (sendable, view_send) depth 20, tt)))
 
 pub job_send : (T I O : RattleType) (g : centre.Ghosts T.Denot) → IsSend T → IsSend I → IsSend O → IsSend (job.the_row T I O g)
-job_send T I O g s i o = declared_send (job.the_type T I O g) (session_send T g s, (port_send I O i o, tt))
+job_send T I O g s i o = declared_send (job.the_type T I O g) (session_send T g s, (search (sendable, view_send) depth 20, (port_send I O i o, tt)))

@@ -1,4 +1,5 @@
 pub mod OneRun
+pub mod Ordered
 pub mod Zipped
 pub mod Places
 pub mod Runs

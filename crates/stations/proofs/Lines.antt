@@ -1,17 +1,16 @@
 -- What is known of the lines of a station, from what its session received.
-use Rattle.std.proofs.Common.{◌≡◌, ◌⊎◌, inl, inr, ℕ, ◌+◌, ◌≤◌, List, [], ◌∷◌, ◌++◌, length, take, refl, sym, ap, ◌∙◌, subst, arith, append_assoc}
-use Rattle.std.specs.Prelude.{Result, Ok, Err}
+use Rattle.std.proofs.Common.{◌≡◌, ◌⊎◌, inl, inr, ℕ, ◌+◌, ◌≤◌, List, [], ◌∷◌, ◌++◌, length, take, sym, ap, ◌∙◌, subst, arith, append_assoc}
+use Rattle.std.specs.Prelude.{Bool, Result, Ok, Err}
 use Rattle.std.specs.declared.alloc.Global.{Global}
 use Rattle.std.proofs.lemmas.List.{append-nil}
 use Rattle.identity.specs.Numbers.{Byte}
-use Rattle.registration.specs.Numbers.{Station}
 use Rattle.centre_core.specs.Asked.{Asked}
 use Rattle.centre_core.specs.State.{State}
 use Rattle.centre_core.specs.declared.reply.Reply.{Reply}
 use Rattle.centre_core.specs.declared.reply.Reply.TheVariants.{Accepted, Kept, Refused}
 use Rattle.desk.specs.declared.outage.Outage.{Outage}
 use Rattle.console.specs.Dialogue.{AnswersReading, Dialogue}
-use Rattle.console.specs.Reading.{reading}
+use Rattle.console.specs.Reading.{Speaker, heard}
 use Rattle.console.specs.declared.answer.Answer.{Answer}
 use Rattle.console.specs.declared.answer.Answer.TheVariants as answer
 use Rattle.console.specs.declared.line.Line.{Line}
@@ -63,54 +62,70 @@ module _ (J : Type 0) (base : State) where
     ])
   ]
 
-  applied : (s t : AtSession) (c : G) (result : Result (Reply Global) Outage) → Applies J base s c result t → Gives s t (λ l. IsResultAfter base l c result)
-  applied s t c result h = elim h.1 [
-    | inl own ↦ submitted s t c result own.1
-    | inr other ↦ inl (ap (λ (u : AtSession). u.view.received) other.2, λ l. subst (IsResultAfter base l c) (sym other.1) tt)
-  ]
+  module _ (may_order : Bool) where
+    applied : (s t : AtSession) (c : G) (result : Result (Reply Global) Outage) → Applies J base may_order s c result t → Gives s t (λ l. IsResultAfter base l c result)
+    applied s t c result h = elim h.1 [
+      | inl own ↦ submitted s t c result own.2
+      | inr refused ↦ (elim refused [
+        | inl other ↦ inl (ap (λ (u : AtSession). u.view.received) other.2, λ l. subst (IsResultAfter base l c) (sym other.1) tt)
+        | inr forbidden ↦ inl (ap (λ (u : AtSession). u.view.received) forbidden.2, λ l. subst (IsResultAfter base l c) (sym forbidden.1) tt)
+      ])
+    ]
 
-  one_line : (n : ℕ) (s t : AtSession) (said : Line Global) (given : Answer Global) → AnswersReading (of_session J base) n s said given t → Gives s t (λ l. IsLineAfter base l said given)
-  one_line n s t line.Silent given h = inl (ap (λ (u : AtSession). u.view.received) h.1, λ l. tt)
-  one_line n s t (line.Bad fault) given h = inl (ap (λ (u : AtSession). u.view.received) h.1, λ l. tt)
-  one_line n s t (line.Apply c) answer.Quiet h = absurd h
-  one_line n s t (line.Apply c) (answer.Bad number fault) h = absurd h
-  one_line n s t (line.Apply c) (answer.Replied sequence reply) h = applied s t c (Ok reply) h.1
-  one_line n s t (line.Apply c) (answer.CommandOutage sequence word) h = elim h.1 [
-    | inl done ↦ applied s t c (Err word) done
+  one_line : (may_order : Bool) (n : ℕ) (s t : AtSession) (said : Line Global) (given : Answer Global) → AnswersReading (of_session J base may_order) n s said given t → Gives s t (λ l. IsLineAfter base l said given)
+  one_line may_order n s t line.Silent given h = inl (ap (λ (u : AtSession). u.view.received) h.1, λ l. tt)
+  one_line may_order n s t (line.Bad fault) given h = inl (ap (λ (u : AtSession). u.view.received) h.1, λ l. tt)
+  one_line may_order n s t (line.Mark word) given h = inl (ap (λ (u : AtSession). u.view.received) h.1, λ l. tt)
+  one_line may_order n s t (line.OwnStation station) given h = inl (ap (λ (u : AtSession). u.view.received) h.1, λ l. tt)
+  one_line may_order n s t (line.Forbidden sequence) given h = inl (ap (λ (u : AtSession). u.view.received) h.1, λ l. tt)
+  one_line may_order n s t (line.Apply c) answer.Quiet h = absurd h
+  one_line may_order n s t (line.Apply c) (answer.Marked word) h = absurd h
+  one_line may_order n s t (line.Apply c) (answer.OwnStation station) h = absurd h
+  one_line may_order n s t (line.Apply c) (answer.Forbidden sequence) h = absurd h
+  one_line may_order n s t (line.Apply c) (answer.Bad number fault) h = absurd h
+  one_line may_order n s t (line.Apply c) (answer.Replied sequence reply) h = applied may_order s t c (Ok reply) h.1
+  one_line may_order n s t (line.Apply c) (answer.CommandOutage sequence word) h = elim h.1 [
+    | inl done ↦ applied may_order s t c (Err word) done
     | inr lacks ↦ inl (ap (λ (u : AtSession). u.view.received) lacks.2, λ l. tt)
   ]
-  one_line n s t (line.Apply c) (answer.Queried found) h = absurd h
-  one_line n s t (line.Apply c) (answer.Listed lines) h = absurd h
-  one_line n s t (line.Apply c) (answer.QueryOutage number word) h = absurd h
-  one_line n s t (line.Ask q) answer.Quiet h = absurd h
-  one_line n s t (line.Ask q) (answer.Bad number fault) h = absurd h
-  one_line n s t (line.Ask q) (answer.Replied sequence reply) h = absurd h
-  one_line n s t (line.Ask q) (answer.CommandOutage sequence word) h = absurd h
-  one_line n s t (line.Ask q) (answer.Queried found) h = inl (h.0.2, λ l. tt)
-  one_line n s t (line.Ask q) (answer.Listed lines) h = absurd h
-  one_line n s t (line.Ask q) (answer.QueryOutage number word) h = elim h.1 [
+  one_line may_order n s t (line.Apply c) (answer.Queried found) h = absurd h
+  one_line may_order n s t (line.Apply c) (answer.Listed lines) h = absurd h
+  one_line may_order n s t (line.Apply c) (answer.QueryOutage number word) h = absurd h
+  one_line may_order n s t (line.Ask q) answer.Quiet h = absurd h
+  one_line may_order n s t (line.Ask q) (answer.Marked word) h = absurd h
+  one_line may_order n s t (line.Ask q) (answer.OwnStation station) h = absurd h
+  one_line may_order n s t (line.Ask q) (answer.Forbidden sequence) h = absurd h
+  one_line may_order n s t (line.Ask q) (answer.Bad number fault) h = absurd h
+  one_line may_order n s t (line.Ask q) (answer.Replied sequence reply) h = absurd h
+  one_line may_order n s t (line.Ask q) (answer.CommandOutage sequence word) h = absurd h
+  one_line may_order n s t (line.Ask q) (answer.Queried found) h = inl (h.0.2, λ l. tt)
+  one_line may_order n s t (line.Ask q) (answer.Listed lines) h = absurd h
+  one_line may_order n s t (line.Ask q) (answer.QueryOutage number word) h = elim h.1 [
     | inl done ↦ inl (done.0.2, λ l. tt)
     | inr lacks ↦ inl (lacks.1.2.0.2, λ l. tt)
   ]
-  one_line n s t (line.Print p) answer.Quiet h = absurd h
-  one_line n s t (line.Print p) (answer.Bad number fault) h = absurd h
-  one_line n s t (line.Print p) (answer.Replied sequence reply) h = absurd h
-  one_line n s t (line.Print p) (answer.CommandOutage sequence word) h = absurd h
-  one_line n s t (line.Print p) (answer.Queried found) h = absurd h
-  one_line n s t (line.Print p) (answer.Listed lines) h = inl (h.1.0.2, λ l. tt)
-  one_line n s t (line.Print p) (answer.QueryOutage number word) h = elim h.1 [
+  one_line may_order n s t (line.Print p) answer.Quiet h = absurd h
+  one_line may_order n s t (line.Print p) (answer.Marked word) h = absurd h
+  one_line may_order n s t (line.Print p) (answer.OwnStation station) h = absurd h
+  one_line may_order n s t (line.Print p) (answer.Forbidden sequence) h = absurd h
+  one_line may_order n s t (line.Print p) (answer.Bad number fault) h = absurd h
+  one_line may_order n s t (line.Print p) (answer.Replied sequence reply) h = absurd h
+  one_line may_order n s t (line.Print p) (answer.CommandOutage sequence word) h = absurd h
+  one_line may_order n s t (line.Print p) (answer.Queried found) h = absurd h
+  one_line may_order n s t (line.Print p) (answer.Listed lines) h = inl (h.1.0.2, λ l. tt)
+  one_line may_order n s t (line.Print p) (answer.QueryOutage number word) h = elim h.1 [
     | inl done ↦ inl (done.0.2, λ l. tt)
     | inr lacks ↦ inl (lacks.2.1.0.2, λ l. tt)
   ]
 
-  module _ (durable : List G) (station : Station) where
+  module _ (durable : List G) (speaker : Speaker) where
     -- what is received for these lines, and that what bears it out bears out their answers
     abbrev Rest : AtSession → AtSession → List (List Byte) → List (Answer Global) → Type 0
     Rest s t texts given = (more : List Sent) × (t.view.received ≡ s.view.received ++ more)
-        × ((low : ℕ) → low ≤ length durable → AreBorneOut base durable low more → AreLinesBorneOut base durable station low texts given)
+        × ((low : ℕ) → low ≤ length durable → AreBorneOut base durable low more → AreLinesBorneOut base durable speaker low texts given)
 
     joined : (s mid t : AtSession) (text : List Byte) (texts : List (List Byte)) (one : Answer Global) (given : List (Answer Global)) →
-        Gives s mid (λ l. IsLineAfter base l (reading station text) one) → Rest mid t texts given → Rest s t (text ∷ texts) (one ∷ given)
+        Gives s mid (λ l. IsLineAfter base l (heard speaker text) one) → Rest mid t texts given → Rest s t (text ∷ texts) (one ∷ given)
     joined s mid t text texts one given step rest = elim step [
       | inl none ↦ (rest.0, rest.1 ∙ ap (λ l. l ++ rest.0) none.0, λ low le borne. (low, omega arith, le, none.1 (take low durable), rest.2 low le borne))
       | inr got ↦ (
@@ -120,17 +135,17 @@ module _ (J : Type 0) (base : State) where
       )
     ]
 
-    from_line : (n : ℕ) (s t : AtSession) (texts : List (List Byte)) (given : List (Answer Global)) → Dialogue (of_session J base) station n s texts given t → Rest s t texts given
+    from_line : (n : ℕ) (s t : AtSession) (texts : List (List Byte)) (given : List (Answer Global)) → Dialogue (of_session J base speaker.orders) speaker n s texts given t → Rest s t texts given
     from_line n s t [] [] h = ([], ap (λ (u : AtSession). u.view.received) h ∙ sym (append-nil s.view.received), λ low le borne. tt)
     from_line n s t [] (one ∷ given) h = absurd h
     from_line n s t (text ∷ texts) [] h = absurd h
     from_line n s t (text ∷ texts) (one ∷ given) h =
-        joined s h.0 t text texts one given (one_line (n + 1) s h.0 (reading station text) one h.1) (from_line (n + 1) h.0 t texts given h.2)
+        joined s h.0 t text texts one given (one_line speaker.orders (n + 1) s h.0 (heard speaker text) one h.1) (from_line (n + 1) h.0 t texts given h.2)
 
     -- if all that the session received is borne out, so is the answer to each of its lines
     pub lines_borne : (view : SessionView) (texts : List (List Byte)) (given : List (Answer Global)) →
-        Dialogue (of_session J base) station 0 (record { station = station; view = new_view }) texts given (record { station = station; view = view }) →
-        AreBorneOut base durable 0 view.received → AreLinesBorneOut base durable station 0 texts given
+        Dialogue (of_session J base speaker.orders) speaker 0 (record { station = speaker.station; view = new_view }) texts given (record { station = speaker.station; view = view }) →
+        AreBorneOut base durable 0 view.received → AreLinesBorneOut base durable speaker 0 texts given
     lines_borne view texts given h borne =
-        let rest = from_line 0 (record { station = station; view = new_view }) (record { station = station; view = view }) texts given h in
+        let rest = from_line 0 (record { station = speaker.station; view = new_view }) (record { station = speaker.station; view = view }) texts given h in
         rest.2 0 (omega arith) (subst (λ (l : List Sent). AreBorneOut base durable 0 l) rest.1 borne)

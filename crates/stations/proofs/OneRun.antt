@@ -1,5 +1,5 @@
 -- A run of a session, by equal names for its station and for the session.
-use Rattle.std.proofs.Common.{◌≡◌, List, Option, Result, subst}
+use Rattle.std.proofs.Common.{◌≡◌, Bool, List, Option, Result, subst}
 use Rattle.std.specs.declared.alloc.Global.{Global}
 use Rattle.identity.specs.Numbers.{Byte}
 use Rattle.registration.specs.Numbers.{Station}
@@ -11,14 +11,14 @@ use Rattle.flusher.specs.declared.session.Session.{Session}
 use Rattle.stations.specs.OfSession.{at_session, of_session}
 use Rattle.stations.specs.OneRun.{IsRunBy}
 
-module _ (J : Type 0) (base : State) (unread before after : Option (List Byte)) (result : Result Ran RunFault) where
+module _ (J : Type 0) (base : State) (may_order : Bool) (unread before after : Option (List Byte)) (result : Result Ran RunFault) where
   -- a run of the lines of this station, from this session to that one
   abbrev RunsFrom : Station → Session J → Session J → Type 0
-  RunsFrom station s t = IsRun Global (of_session J base)
-      (record { station = station; world = at_session s; unread = unread; written = before })
+  RunsFrom station s t = IsRun Global (of_session J base may_order)
+      (record { speaker = record { station = station; orders = may_order }; world = at_session s; unread = unread; written = before })
       (record { result = result; world = at_session t; written = after })
 
   -- it is so by equal ones
-  pub run_by : (station : Station) (s s' t t' : Session J) → station ≡ s'.sender.station → s ≡ s' → t ≡ t' → RunsFrom station s t → IsRunBy J base s' unread before result t' after
+  pub run_by : (station : Station) (s s' t t' : Session J) → station ≡ s'.sender.station → s ≡ s' → t ≡ t' → RunsFrom station s t → IsRunBy J base may_order s' unread before result t' after
   run_by station s s' t t' e f h run =
       subst (RunsFrom s'.sender.station s') h (subst (λ u. RunsFrom s'.sender.station u t) f (subst (λ k. RunsFrom k s t) e run))

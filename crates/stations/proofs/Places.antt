@@ -1,6 +1,6 @@
 -- Lists of which the items of one place belong together.
-use Rattle.std.proofs.Common.{◌≡◌, ℕ, zero, suc, ◌<◌, List, [], ◌∷◌, length, refl, sym, ap, ◌∙◌, arith}
-use Rattle.std.specs.Prelude.{Some, map, slice_get, slice_index_or}
+use Rattle.std.proofs.Common.{◌≡◌, ℕ, zero, suc, ◌<◌, List, [], ◌∷◌, length, refl, sym, ap, ◌∙◌, subst, arith}
+use Rattle.std.specs.Prelude.{All, Some, map, slice_get, slice_index_or}
 use Rattle.std.specs.List.{AllZip}
 
 -- a place at which there is an item is within the list
@@ -24,6 +24,19 @@ pub at_index : {X : Type 0} (xs : List X) (k : ℕ) (x : X) → k < length xs �
 at_index [] k x lt e = absurd (omega arith)
 at_index (y ∷ xs) zero x lt e = ap (λ (z : _). Some z) e
 at_index (y ∷ xs) (suc k) x lt e = at_index xs k x (omega arith) e
+
+-- the item at a place, as all items are known by their places
+pub index_at : {X : Type 0} (xs : List X) (k : ℕ) (x : X) → slice_get xs k ≡ Some x → slice_index_or xs k x ≡ x
+index_at [] k x e = absurd cc
+index_at {X} (y ∷ xs) zero x e = one y x e
+  where
+    one : (p q : X) → Some p ≡ Some q → p ≡ q
+    one p q e = cc
+index_at (y ∷ xs) (suc k) x e = index_at xs k x e
+
+-- what holds of all items holds of the one at a place
+pub of_all_at : {X : Type 0} (P : X → Type 0) (xs : List X) (k : ℕ) (x : X) → All P xs → slice_get xs k ≡ Some x → P x
+of_all_at P xs k x all at = subst P (index_at xs k x at) (all k x (within xs k x at))
 
 -- the value of the item at a place
 pub mapped : {X Y : Type 0} (f : X → Y) (xs : List X) (k : ℕ) (x : X) → slice_get xs k ≡ Some x → slice_get (map f xs) k ≡ Some (f x)

@@ -1,17 +1,19 @@
 -- What is known of a run of many stations, from what its parts say.
 use Rattle.std.proofs.Common.{◌≡◌, ℕ, zero, suc, ◌+◌, ◌≤◌, List, [], ◌∷◌, ◌++◌, length, refl, sym, ap, ◌∙◌, subst}
-use Rattle.std.specs.Prelude.{Option, Some, map, slice_get, false, true}
+use Rattle.std.specs.Prelude.{All, Option, Some, map, slice_get, false, true}
 use Rattle.std.specs.declared.alloc.Global.{Global}
-use Rattle.std.specs.List.{AllZip}
+use Rattle.std.specs.List.{AllByRecursion, AllZip}
 use Rattle.std.proofs.lemmas.List.{append-nil}
 use mathlib.Core.List.{Sublist}
 use Rattle.identity.specs.Numbers.{Byte}
 use Rattle.registration.specs.Numbers.{Station}
+use Rattle.console.specs.Reading.{Speaker}
 use Rattle.sector_disk.specs.Disk.{HasFailed, View}
 use Rattle.sector_disk.specs.Run.{LeavesOnly}
 use Rattle.centre_core.specs.Asked.{Asked}
 use Rattle.centre_core.specs.State.{State}
 use Rattle.recovery.specs.Lives.{StoreView, IsStoredIn}
+use Rattle.answers.specs.Views.{received_of, sent_of}
 use Rattle.station_queue.specs.Ends.{Sending}
 use Rattle.station_queue.specs.declared.entry.Entry.{Entry}
 use Rattle.station_queue.specs.declared.entry.Entry.TheVariants as entry
@@ -22,6 +24,7 @@ use Rattle.flusher.specs.Order.{of_station}
 use Rattle.flusher.specs.Runs.{HasSameEnds}
 use Rattle.flusher.specs.Sessions.{view_of as session_view}
 use Rattle.flusher.specs.Shared.{commands_among}
+use Rattle.flusher.specs.Since.{WasDurable}
 use Rattle.flusher.specs.Stages.{Sent}
 use Rattle.flusher.specs.Stored.{IsStoredFor, OpensBetween}
 use Rattle.flusher.specs.Submitted.{SessionView}
@@ -29,15 +32,19 @@ use Rattle.flusher.specs.View.{FlusherView}
 use Rattle.flusher.specs.declared.session.Ended.{Ended}
 use Rattle.flusher.specs.declared.session.Session.{Session}
 use Rattle.flusher.proofs.Batched.{commands_among-append}
+use Rattle.flusher.proofs.Since.{AreDurable, all_prefix, run_durable}
 use Rattle.flusher.proofs.Sessions.{finished_sessions, opened_sessions, still_sessions}
 use Rattle.stations.specs.declared.job.Done.{Done}
 use Rattle.stations.specs.declared.job.Job.{Job}
 use Rattle.stations.specs.declared.port.Port.{Port}
-use Rattle.stations.specs.Done.{EndsAs, IsDone, IsRunOf}
+use Rattle.stations.specs.declared.orders.Orders.{Orders}
+use Rattle.stations.specs.Done.{EndsAs, IsDone, IsRunOf, speaker_of}
 use Rattle.stations.specs.Flushed.{HasFlushed}
-use Rattle.stations.specs.Served.{Run, HasServed, IsBorneOut, new_view}
+use Rattle.stations.specs.Orders.{has_order, may}
+use Rattle.stations.specs.Served.{Run, HasServed, IsBorneOut, new_view, speaker_at}
 use Rattle.stations.proofs.Lines.{lines_borne}
-use Rattle.stations.proofs.Places.{beside, map_length, mapped, one_only, zip_length, zip_mapped}
+use Rattle.stations.proofs.Ordered.{sublist_without}
+use Rattle.stations.proofs.Places.{beside, map_length, mapped, of_all_at, one_only, zip_length, zip_mapped}
 
 -- its end is none of the commands that a session sent
 commands_before_end : (sent : List Entry) (station : Station) → commands_among (sent ++ entry.Ended station ∷ []) ≡ commands_among sent
@@ -95,7 +102,8 @@ module _ {J I O : Type 0} (base : State) (unread : I → Option (List Byte)) (wr
 
   module _ {D : Type 0} (first last : FlusherView D) (sessions : List (Session J)) (ports : List (Port I O)) (jobs : List (Job J I O)) (done : List (Done J O))
       (with_sessions : map (λ (j : Job J I O). j.session) jobs ≡ sessions) (with_ports : map (λ (j : Job J I O). j.port) jobs ≡ ports)
-      (new : AreNewSessions first.taker.queue first.senders sessions) (all : AllZip IsOf jobs done) where
+      (new : AreNewSessions first.taker.queue first.senders sessions) (all : AllZip IsOf jobs done)
+      (orders : Orders) (ordered : All (λ (j : Job J I O). j.orders ≡ may orders j.session.sender.station) jobs) where
     -- the ended sessions are those of the flusher
     pub sessions_ended : HasSameEnds first last → AreSessionsOf last (map (λ (d : Done J O). d.ended) done)
     sessions_ended same =
@@ -117,8 +125,15 @@ module _ {J I O : Type 0} (base : State) (unread : I → Option (List Byte)) (wr
     abbrev pub given_of : Done J O → Run O
     given_of d = (d.writer, d.ran)
 
+    -- the station of a place, and whether it may give orders
+    speaker_is : (k : ℕ) (j : Job J I O) → slice_get jobs k ≡ Some j → speaker_of j ≡ speaker_at orders k
+    speaker_is k j at =
+        let n = new_at k j at in
+        let may_order = of_all_at (λ (x : Job J I O). x.orders ≡ may orders x.session.sender.station) jobs k j ordered at ∙ ap (may orders) n.0 in
+        λ i. record { station = n.0 i; orders = may_order i }
+
     pub each_run : (k : ℕ) (port : Port I O) (run : Run O) (view : SessionView) → slice_get ports k ≡ Some port → slice_get (map given_of done) k ≡ Some run →
-        slice_get (views_of jobs done all) k ≡ Some view → IsRunOf J base (k + 1) (unread port.reader) (written port.writer) new_view view (written run.0) run.1
+        slice_get (views_of jobs done all) k ≡ Some view → IsRunOf J base (speaker_at orders k) (unread port.reader) (written port.writer) new_view view (written run.0) run.1
     each_run k port run view at_port at_run at_view =
         let j = beside jobs (views_of jobs done all) k view (views_length jobs done all) at_view in
         let d = beside done jobs k j.0 (sym (zip_length IsOf jobs done all)) j.1 in
@@ -126,11 +141,11 @@ module _ {J I O : Type 0} (base : State) (unread : I → Option (List Byte)) (wr
         let n = new_at k j.0 j.1 in
         let same_port = one_only ports k j.0.port port (subst (λ (l : List (Port I O)). slice_get l k ≡ Some j.0.port) with_ports (mapped (λ (x : Job J I O). x.port) jobs k j.0 j.1)) at_port in
         let same_run = one_only (map given_of done) k (given_of d.0) run (mapped given_of done k d.0 d.1) at_run in
-        subst (λ (q : Station × Port I O × SessionView × Run O). IsRunOf J base q.0 (unread q.1.reader) (written q.1.writer) q.2 view (written q.3.0) q.3.1) (λ i. (n.0 i, same_port i, n.1 i, same_run i)) e.run
+        subst (λ (q : Speaker × Port I O × SessionView × Run O). IsRunOf J base q.0 (unread q.1.reader) (written q.1.writer) q.2 view (written q.3.0) q.3.1) (λ i. (speaker_is k j.0 j.1 i, same_port i, n.1 i, same_run i)) e.run
 
     -- what is known of each session, by what is known of its end
     pub each_borne : IsClosed base last (map (λ (d : Done J O). d.ended) done) → AreSessionsOf last (map (λ (d : Done J O). d.ended) done) →
-        (k : ℕ) (view : SessionView) → slice_get (views_of jobs done all) k ≡ Some view → IsBorneOut J base last.published last.durable (k + 1) view
+        (k : ℕ) (view : SessionView) → slice_get (views_of jobs done all) k ≡ Some view → IsBorneOut J base last.published last.durable (speaker_at orders k) view
     each_borne closed are k view at_view =
         let j = beside jobs (views_of jobs done all) k view (views_length jobs done all) at_view in
         let d = beside done jobs k j.0 (sym (zip_length IsOf jobs done all)) j.1 in
@@ -144,19 +159,49 @@ module _ {J I O : Type 0} (base : State) (unread : I → Option (List Byte)) (wr
         let sent = ap (λ (s : Sending). commands_among s.sent) e.sender ∙ commands_before_end view.sent j.0.session.sender.station in
         record {
           answers = answers;
-          lines = λ texts given by. lines_borne J base last.durable (k + 1) view texts given by answers;
+          lines = λ texts given by. lines_borne J base last.durable (speaker_at orders k) view texts given by answers;
           order = subst (λ (q : Station × List (Asked Global)). Sublist (of_station q.0 last.durable) q.1) (λ i. (station i, sent i)) c.order;
           seen = subst (λ l. HasSeenOf last.published last.durable l) e.seen c.seen;
         }
 
+    -- a new flusher has sent nothing
+    none_durable : (disk : D → View) → AreDurable disk base last first.senders
+    none_durable disk k a at =
+        let s = beside sessions first.senders k a (sym new.count) at in
+        subst (λ (l : List Sent). AllByRecursion (WasDurable disk base last) l) (sym (new.each k a s.0 at s.1).channel.1) tt
+
+    -- each answer that a session received is one that was sent to it
+    each_durable : (disk : D → View) → AreDurable disk base last last.senders → IsClosed base last (map (λ (d : Done J O). d.ended) done) → AreSessionsOf last (map (λ (d : Done J O). d.ended) done) →
+        (k : ℕ) (view : SessionView) → slice_get (views_of jobs done all) k ≡ Some view → AllByRecursion (WasDurable disk base last) view.received
+    each_durable disk sent closed are k view at_view =
+        let j = beside jobs (views_of jobs done all) k view (views_length jobs done all) at_view in
+        let d = beside done jobs k j.0 (sym (zip_length IsOf jobs done all)) j.1 in
+        let e = ends_at jobs done all k j.0 view d.0 j.1 at_view d.1 in
+        let there = mapped (λ (x : Done J O). x.ended) done k d.0 d.1 in
+        let a = beside last.senders (map (λ (x : Done J O). x.ended) done) k d.0.ended are.count there in
+        let c = closed.each k a.0 d.0.ended a.1 there in
+        subst (λ (l : List Sent). AllByRecursion (WasDurable disk base last) l) e.received
+        (all_prefix (WasDurable disk base last) (received_of d.0.ended.receiver.pass) (sent_of a.0.pass) c.received (sent k a.0 a.1))
+
+    -- if its station may give no orders, no session submitted one
+    each_orderless : (k : ℕ) (view : SessionView) → slice_get (views_of jobs done all) k ≡ Some view → may orders (k + 1) ≡ false → has_order (commands_among view.sent) ≡ false
+    each_orderless k view at_view never =
+        let j = beside jobs (views_of jobs done all) k view (views_length jobs done all) at_view in
+        let d = beside done jobs k j.0 (sym (zip_length IsOf jobs done all)) j.1 in
+        let e = ends_at jobs done all k j.0 view d.0 j.1 at_view d.1 in
+        let none = ap (λ (v : SessionView). v.sent) (new_at k j.0 j.1).1 in
+        let may_not = ap (λ (speaker : Speaker). speaker.orders) (speaker_is k j.0 j.1) ∙ never in
+        ap (λ l. has_order (commands_among l)) (e.submits.1 ∙ ap (λ l. l ++ e.submits.0) none) ∙ e.submits.2 may_not
+
     -- all of it
     pub has_served : (disk : D → View) (opened store : StoreView Global D) (n : ℕ) → opened.broken ≡ false → n ≡ length ports → IsNewFlusher n opened first → HasFlushed disk base first last → store ≡ last.store →
         (ended : List (Ended J)) (runs : List (Run O)) → ended ≡ map (λ (d : Done J O). d.ended) done → runs ≡ map given_of done →
-        IsClosed base last ended → HasServed disk J base unread written opened ports store runs
+        IsClosed base last ended → HasServed disk J base orders unread written opened ports store runs
     has_served disk opened store n whole count begun flushed store_is ended runs is_ended is_runs closed =
         let jobs_length : length jobs ≡ length ports = sym (map_length (λ (x : Job J I O). x.port) jobs) ∙ ap length with_ports in
         let sound_first : first.store.broken ≡ false = ap (λ (s : StoreView Global D). s.broken) begun.store ∙ whole in
         let runs_length : length runs ≡ length ports = ap length is_runs ∙ map_length given_of done ∙ zip_length IsOf jobs done all ∙ jobs_length in
+        let borne = each_borne (subst (λ l. IsClosed base last l) is_ended closed) (sessions_ended flushed.same) in
         record {
           first = first;
           last = last;
@@ -174,7 +219,12 @@ module _ {J I O : Type 0} (base : State) (unread : I → Option (List Byte)) (wr
           views = views_of jobs done all;
           count = (runs_length, views_length jobs done all ∙ jobs_length);
           each = λ k port run view at_port at_run at_view. each_run k port run view at_port (subst (λ (l : List (Run O)). slice_get l k ≡ Some run) is_runs at_run) at_view;
-          closed = each_borne (subst (λ l. IsClosed base last l) is_ended closed) (sessions_ended flushed.same);
+          closed = borne;
+          orderless = λ k view at_view never.
+              let none = each_orderless k view at_view never in
+              (none, sublist_without (of_station (k + 1) last.durable) (commands_among view.sent) (borne k view at_view).order none);
+          durable = λ honest kept. each_durable disk (run_durable disk base first last (flushed.lasting (stored_first disk base opened n first whole begun honest kept)) (none_durable disk))
+              (subst (λ l. IsClosed base last l) is_ended closed) (sessions_ended flushed.same);
         }
       where
         -- what is known of the stores of the first and the last flusher is known of these two

@@ -2,38 +2,46 @@
 use Rattle.std.specs.Prelude.{◌≡◌, List, [], ◌∷◌, ◌++◌, Option, Result}
 use Rattle.std.specs.declared.alloc.Global.{Global}
 use Rattle.identity.specs.Numbers.{Byte}
-use Rattle.registration.specs.Numbers.{Station}
 use Rattle.crossbeam_channel.specs.Ends.{receives_on}
 use Rattle.answers.specs.Views.{received_of}
 use Rattle.centre_core.specs.State.{State}
 use Rattle.station_queue.specs.Ends.{sending}
 use Rattle.station_queue.specs.declared.entry.Entry.TheVariants as entry
+use Rattle.console.specs.Reading.{Speaker}
 use Rattle.console.specs.Runs.{IsRun}
 use Rattle.console.specs.declared.running.Ran.{Ran}
 use Rattle.console.specs.declared.running.RunFault.{RunFault}
 use Rattle.flusher.specs.Sessions.{view_of}
 use Rattle.flusher.specs.Submitted.{SessionView}
 use Rattle.stations.specs.OfSession.{of_session}
+use Rattle.stations.specs.Orders.{Submits}
 use Rattle.stations.specs.declared.job.Done.{Done}
 use Rattle.stations.specs.declared.job.Job.{Job}
 
+-- the station of a job, and whether it may give orders
+abbrev pub speaker_of : {J I O : Type 0} → Job J I O → Speaker
+speaker_of job = record { station = job.session.sender.station; orders = job.orders }
+
 module _ (J : Type 0) (base : State) where
-  -- The lines of a station were answered by its session. Given are what its reader had left and its writer held before the run; what the
-  -- session had sent, received and seen before and after it; what the writer holds after it; and how it ended.
-  abbrev pub IsRunOf : Station → Option (List Byte) → Option (List Byte) → SessionView → SessionView → Option (List Byte) → Result Ran RunFault → Type 0
-  IsRunOf station unread written s t after ran =
-      IsRun Global (of_session J base) (record { station = station; world = record { station = station; view = s }; unread = unread; written = written })
-      (record { result = ran; world = record { station = station; view = t }; written = after })
+  -- The lines of a station were answered by its session. Given are the station and whether it may give orders; what its reader had left and
+  -- its writer held before the run; what the session had sent, received and seen before and after it; what the writer holds after it; and how
+  -- it ended.
+  abbrev pub IsRunOf : Speaker → Option (List Byte) → Option (List Byte) → SessionView → SessionView → Option (List Byte) → Result Ran RunFault → Type 0
+  IsRunOf speaker unread written s t after ran =
+      IsRun Global (of_session J base speaker.orders)
+      (record { speaker = speaker; world = record { station = speaker.station; view = s }; unread = unread; written = written })
+      (record { result = ran; world = record { station = speaker.station; view = t }; written = after })
 
   module _ {I O : Type 0} (unread : I → Option (List Byte)) (written : O → Option (List Byte)) where
-    -- A session answered the lines of its port and then ended, and this came of it. `last` is the session after the run; then it sent
-    -- its end, and nothing else.
+    -- A session answered the lines of its port and then ended, and this came of it. `last` is the session after the run, which submitted no
+    -- order in it if its station may give none; then it sent its end, and nothing else.
     pub record EndsAs (job : Job J I O) (last : SessionView) (done : Done J O) : Type 0 where
-      pub run : IsRunOf job.session.sender.station (unread job.port.reader) (written job.port.writer) (view_of job.session) last (written done.writer) done.ran
+      pub run : IsRunOf (speaker_of job) (unread job.port.reader) (written job.port.writer) (view_of job.session) last (written done.writer) done.ran
       pub sender : done.ended.sender ≡ sending job.session.sender.queue job.session.sender.station (last.sent ++ entry.Ended job.session.sender.station ∷ [])
       pub received : received_of done.ended.receiver.pass ≡ last.received
       pub channel : receives_on done.ended.receiver.channel ≡ receives_on job.session.receiver.channel
       pub seen : done.ended.viewer ≡ last.seen
+      pub submits : Submits job.orders job.session.sender.sent last.sent
 
     -- the same for some session after the run
     abbrev pub IsDone : Job J I O → Done J O → Type 0

@@ -11,7 +11,7 @@ use Rattle.flusher.specs.View.{FlusherView}
 
 -- It did rounds until it had taken the end of each session. It still has its queue and its channels.
 pub record HasFlushed {D : Type 0} (disk : D → View) (base : State) (first last : FlusherView D) : Type 0 where
-  pub rounds : AreRounds base first last
+  pub rounds : AreRounds disk base first last
   pub ended : HasTakenEnds last
   pub same : HasSameEnds first last
   -- what is durable then is a history, and the register of a sound store is what it makes of the base

@@ -1,5 +1,5 @@
 -- What stays in a session, whatever it is asked.
-use Rattle.std.specs.Prelude.{◌≡◌, List, Option, None, Some}
+use Rattle.std.specs.Prelude.{◌≡◌, Bool, List, Option, None, Some}
 use Rattle.std.specs.declared.alloc.Global.{Global}
 use mathlib.Core.List.{IsPrefix}
 use Rattle.crossbeam_channel.specs.Ends.{receives_on}
@@ -8,6 +8,7 @@ use Rattle.station_queue.specs.Ends.{Sending}
 use Rattle.answers.specs.declared.channel.AnswerReceiver.{AnswerReceiver}
 use Rattle.flusher.specs.Stages.{Sent}
 use Rattle.flusher.specs.declared.session.Session.{Session}
+use Rattle.stations.specs.Orders.{Submits}
 
 -- a session when its run began: its ends, and what it had seen
 pub record Beginning : Type 0 where
@@ -20,14 +21,16 @@ module _ {J : Type 0} where
   abbrev pub beginning_of : Session J → Beginning
   beginning_of s = record { sender = s.sender; receiver = s.receiver; seen = s.viewer }
 
-  -- it is the session that began so: it has the same station, queue and channel, and what was seen then is a prefix of what is seen
-  pub record GoesOnFrom (b : Beginning) (s : Session J) : Type 0 where
+  -- It is the session that began so: it has the same station, queue and channel, and what was seen then is a prefix of what is seen. It has
+  -- submitted no order since, if its station may give none.
+  pub record GoesOnFrom (may_order : Bool) (b : Beginning) (s : Session J) : Type 0 where
     pub queue : s.sender.queue ≡ b.sender.queue
     pub station : s.sender.station ≡ b.sender.station
     pub channel : receives_on s.receiver.channel ≡ receives_on b.receiver.channel
     pub seen : IsPrefix b.seen s.viewer
+    pub submits : Submits may_order b.sender.sent s.sender.sent
 
   -- the same, if it is given how the session began
-  abbrev pub GoesOn : Option Beginning → Session J → Type 0
-  GoesOn None s = Unit {0}
-  GoesOn (Some b) s = GoesOnFrom b s
+  abbrev pub GoesOn : Bool → Option Beginning → Session J → Type 0
+  GoesOn may_order None s = Unit {0}
+  GoesOn may_order (Some b) s = GoesOnFrom may_order b s

@@ -1,3 +1,4 @@
+pub mod Orders
 pub mod OfSession
 pub mod GoesOn
 pub mod OneRun

@@ -2,14 +2,13 @@
 use Rattle.std.specs.Prelude.{◌≤◌, ℕ, List, [], ◌∷◌, length, take}
 use Rattle.std.specs.declared.alloc.Global.{Global}
 use Rattle.identity.specs.Numbers.{Byte}
-use Rattle.registration.specs.Numbers.{Station}
 use Rattle.centre_core.specs.Asked.{Asked}
 use Rattle.centre_core.specs.State.{State}
 use Rattle.console.specs.declared.answer.Answer.{Answer}
 use Rattle.console.specs.declared.answer.Answer.TheVariants as answer
 use Rattle.console.specs.declared.line.Line.{Line}
 use Rattle.console.specs.declared.line.Line.TheVariants as line
-use Rattle.console.specs.Reading.{reading}
+use Rattle.console.specs.Reading.{Speaker, heard}
 use Rattle.flusher.specs.Borne.{IsReplyAfter}
 
 -- these commands bear out the answer to a command: `ok`, `kept` or `no`; an outage word needs nothing
@@ -24,12 +23,15 @@ IsLineAfter base commands (line.Bad fault) given = Unit {0}
 IsLineAfter base commands (line.Apply c) given = IsGivenAfter base commands c given
 IsLineAfter base commands (line.Ask q) given = Unit {0}
 IsLineAfter base commands (line.Print l) given = Unit {0}
+IsLineAfter base commands (line.Mark word) given = Unit {0}
+IsLineAfter base commands (line.OwnStation station) given = Unit {0}
+IsLineAfter base commands (line.Forbidden sequence) given = Unit {0}
 
 -- The answer to each line of a station is borne out by a prefix of the durable commands. No prefix is shorter than the one before it, nor
 -- than `low` commands.
-abbrev pub AreLinesBorneOut : State → List (Asked Global) → Station → ℕ → List (List Byte) → List (Answer Global) → Type 0
-AreLinesBorneOut base durable station low [] answers = Unit {0}
-AreLinesBorneOut base durable station low (text ∷ texts) [] = Unit {0}
-AreLinesBorneOut base durable station low (text ∷ texts) (given ∷ answers) =
-    (place : ℕ) × (low ≤ place) × (place ≤ length durable) × IsLineAfter base (take place durable) (reading station text) given
-    × AreLinesBorneOut base durable station place texts answers
+abbrev pub AreLinesBorneOut : State → List (Asked Global) → Speaker → ℕ → List (List Byte) → List (Answer Global) → Type 0
+AreLinesBorneOut base durable speaker low [] answers = Unit {0}
+AreLinesBorneOut base durable speaker low (text ∷ texts) [] = Unit {0}
+AreLinesBorneOut base durable speaker low (text ∷ texts) (given ∷ answers) =
+    (place : ℕ) × (low ≤ place) × (place ≤ length durable) × IsLineAfter base (take place durable) (heard speaker text) given
+    × AreLinesBorneOut base durable speaker place texts answers

@@ -1,5 +1,5 @@
 -- A session as a desk.
-use Rattle.std.specs.Prelude.{◌≡◌, ◌⊎◌, List, Result, Ok, Err, length}
+use Rattle.std.specs.Prelude.{◌≡◌, ◌⊎◌, Bool, true, false, List, Result, Ok, Err, length}
 use Rattle.std.specs.declared.alloc.Global.{Global}
 use mathlib.Core.List.{IsPrefix}
 use Rattle.registration.specs.Numbers.{Station}
@@ -21,6 +21,7 @@ use Rattle.flusher.specs.declared.answer.Answer.TheVariants as answer
 use Rattle.flusher.specs.declared.session.Session.{Session}
 use Rattle.flusher.specs.Submitted.{SessionView, IsSubmission}
 use Rattle.flusher.specs.Sessions.{view_of}
+use Rattle.stations.specs.Orders.{is_allowed}
 
 -- what a session as a desk is modelled as: its station, and what it sent, received, has seen and has reached
 pub record AtSession : Type 0 where
@@ -62,6 +63,10 @@ pub record IsSubmitted (J : Type 0) (base : State) (s : AtSession) (c : Asked Gl
 abbrev pub IsOfAnother : AtSession → Asked Global → Result (Reply Global) Outage → AtSession → Type 0
 IsOfAnother s c result t = (c.station ≡ s.station → ⊥) × (result ≡ Err Closed) × (t ≡ s)
 
+-- an order, and the station may give none: it is not submitted, and nothing changes
+abbrev pub IsForbidden : Bool → AtSession → Asked Global → Result (Reply Global) Outage → AtSession → Type 0
+IsForbidden may_order s c result t = (is_allowed may_order c ≡ false) × (result ≡ Err Closed) × (t ≡ s)
+
 -- The result of a query. It is what the register answers after all that is seen now, which begins with all that was seen before. Or
 -- memory ran out for a list. Or the published copy could not be entered, and no more is seen.
 abbrev pub AnswersAfter : State → List (Asked Global) → Query → Result (QueryAnswer Global) Outage → List (Asked Global) → Type 0
@@ -83,10 +88,6 @@ ReadsAfter base old (Err Broken) new = ⊥
 ReadsAfter base old (Err Epochs) new = ⊥
 
 module _ (J : Type 0) (base : State) where
-  -- a command of the session's station is submitted
-  abbrev pub Applies : AtSession → Asked Global → Result (Reply Global) Outage → AtSession → Type 0
-  Applies s c result t = (t.station ≡ s.station) × (((c.station ≡ s.station) × IsSubmitted J base s c result t) ⊎ IsOfAnother s c result t)
-
   -- nothing is sent or received, and all that is seen is reached
   abbrev pub OnlyReads : AtSession → AtSession → Type 0
   OnlyReads s t =
@@ -100,6 +101,13 @@ module _ (J : Type 0) (base : State) where
   abbrev pub Reads : AtSession → Result State Outage → AtSession → Type 0
   Reads s result t = OnlyReads s t × ReadsAfter base s.view.seen result t.view.seen
 
+-- `may_order` says whether the session's station may give orders
+module _ (J : Type 0) (base : State) (may_order : Bool) where
+  -- a command of the session's station is submitted, but an order only if the station may give it
+  abbrev pub Applies : AtSession → Asked Global → Result (Reply Global) Outage → AtSession → Type 0
+  Applies s c result t = (t.station ≡ s.station)
+      × (((c.station ≡ s.station) × (is_allowed may_order c ≡ true) × IsSubmitted J base s c result t) ⊎ IsOfAnother s c result t ⊎ IsForbidden may_order s c result t)
+
   -- the rules of a session with a centre that was opened over this register
   abbrev pub of_session : Rules Global AtSession
-  of_session = record { applies = Applies; answers = Answers; reads = Reads }
+  of_session = record { applies = Applies; answers = Answers J base; reads = Reads J base }

@@ -4,10 +4,11 @@ use console::{Ran, RunFault};
 use flusher::{Ended, Session};
 use snapshots::Centre;
 
-/// The session of a station, and its port.
+/// The session of a station, its port, and whether it may give orders.
 #[derive(Drop)]
 pub(crate) struct Job<J: Centre, I: Drop, O: Drop> {
     pub(crate) session: Session<J>,
+    pub(crate) orders: bool,
     pub(crate) port: Port<I, O>,
 }
 

@@ -6,6 +6,7 @@ mod job;
 mod listing;
 mod many_stations;
 mod one_station;
+mod orders;
 mod port;
 mod session_desk;
 mod station_job;
@@ -14,5 +15,6 @@ mod watch;
 
 pub use many_stations::{Many, ManyTerms, run_many};
 pub use one_station::{Serving, run_session};
+pub use orders::Orders;
 pub use port::Port;
 pub use watch::Watch;

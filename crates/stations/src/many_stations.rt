@@ -1,5 +1,5 @@
 //! Many stations over one store.
-ghost use Rattle.std.specs.Prelude.{◌≡◌, ◌≤◌, [], true, false, cond, IfErr, IfOk, length, map, vec_capacity, vec_len};
+ghost use Rattle.std.specs.Prelude.{◌≡◌, ◌≤◌, [], All, true, false, cond, IfErr, IfOk, length, map, vec_capacity, vec_len};
 ghost use Rattle.recovery.specs.Lives.{view_of as store_view};
 ghost use Rattle.flusher.specs.declared.opening.CentreFault.TheVariants.{NoMemory, NoPlace};
 ghost use Rattle.flusher.specs.Closed.{AreSessionsOf, IsClosed};
@@ -7,10 +7,11 @@ ghost use Rattle.flusher.specs.Opened.{AreNewSessions, IsNewFlusher, has_place};
 ghost use Rattle.flusher.specs.Runs.{HasTakenEnds};
 ghost use Rattle.flusher.specs.Served.{IsSettled};
 ghost use Rattle.flusher.specs.View.{view_of};
+ghost use Rattle.stations.specs.Orders.{may};
 ghost use Rattle.stations.specs.Served.{HasServed};
 
 use crate::job::{Done, Job};
-use crate::one_station::Serving;
+use crate::orders::Orders;
 use crate::port::Port;
 use crate::station_job::Shared;
 use crate::station_threads::{Held, ThreadRoom, serve_all};
@@ -28,9 +29,11 @@ use std::thread::Threads;
 
 /// What a run of many stations is given besides its store and its ports.
 #[derive(Drop)]
-pub struct ManyTerms {
+pub struct ManyTerms<'o> {
     /// Where its memory comes from.
     pub alloc: Global,
+    /// Which stations may give orders.
+    pub orders: Orders<'o>,
     /// The most calls of each reader.
     pub turns: u32,
     /// The log of its centre.
@@ -95,10 +98,11 @@ fn room_for<J: Centre, I: Read + Drop, O: Write + Drop>(
     })
 }
 
-// Each session with its port, in order.
+// Each session with its port, in order, and whether its station may give orders.
 fn jobs_of<J: Centre, I: Read + Drop, O: Write + Drop>(
     sessions: Vec<Session<J>>,
     ports: Vec<Port<I, O>>,
+    orders: Orders<'_>,
     mut jobs: Vec<Job<J, I, O>>,
 ) -> Vec<Job<J, I, O>>
     requires count { length sessions.items ≡ length ports.items }
@@ -106,6 +110,7 @@ fn jobs_of<J: Centre, I: Read + Drop, O: Write + Drop>(
     requires room { vec_len sessions ≤ vec_capacity jobs }
     ensures sessions { map (λ job. job.session) result.items ≡ sessions.items }
     ensures ports { map (λ job. job.port) result.items ≡ ports.items }
+    ensures orders { All (λ job. job.orders ≡ may orders.entry job.session.sender.station) result.items }
     ensures count { vec_len result ≡ vec_len sessions }
 {
     let mut ports = ports.into_iter();
@@ -113,7 +118,12 @@ fn jobs_of<J: Centre, I: Read + Drop, O: Write + Drop>(
         let Some(port) = ports.next() else {
             unreachable!()
         };
-        jobs.push_reserved(Job { session, port });
+        let may_order = orders.may(session.station());
+        jobs.push_reserved(Job {
+            session,
+            orders: may_order,
+            port,
+        });
     }
     jobs
 }
@@ -174,6 +184,7 @@ fn serve_opened<
     shared: &Shared<R, V>,
     opened: (Flusher<J, D>, Vec<Session<J>>),
     ports: Vec<Port<I, O>>,
+    orders: Orders<'_>,
     room: Room<J, I, O>,
 ) -> Many<D, O>
     requires settled { IsSettled J.base (view_of opened.0) }
@@ -181,7 +192,7 @@ fn serve_opened<
     requires sound { (view_of opened.0).store.broken ≡ false }
     requires sessions { AreNewSessions (view_of opened.0).taker.queue (view_of opened.0).senders opened.1.items }
     requires room { room.stations ≡ vec_len ports }
-    ensures { HasServed D.view J J.base I.remaining O.contents (view_of opened.0).store ports.items (store_view result.store) result.runs.items }
+    ensures { HasServed D.view J J.base orders.entry I.remaining O.contents (view_of opened.0).store ports.items (store_view result.store) result.runs.items }
 {
     let (flusher, sessions) = opened;
     let Room {
@@ -191,8 +202,8 @@ fn serve_opened<
         ended,
         runs,
     } = room;
-    let jobs = jobs_of(sessions, ports, jobs);
-    let rt = shared.serving.rt;
+    let jobs = jobs_of(sessions, ports, orders, jobs);
+    let rt = shared.rt;
     let (held, done) = serve_all(shared, Held { flusher, rt }, jobs, threads);
     let (ended, runs) = split_done(done, ended, runs);
     let store = store_of(rt, held.into_flusher(), ended);
@@ -216,7 +227,7 @@ pub fn run_many<
     V: Watch + Sync,
 >(
     rt: &R,
-    terms: ManyTerms,
+    terms: ManyTerms<'_>,
     store: Store<Global, D>,
     ports: Vec<Port<I, O>>,
     watch: &V,
@@ -224,8 +235,8 @@ pub fn run_many<
     requires sound { store.broken ≡ false }
     requires centre { (terms.log.seen.book ≡ J.book) × (store.register ≡ J.base) }
 
-    // How each station's lines were answered, and what became of the store.
-    ensures served { IfOk result (λ many. HasServed D.view J J.base I.remaining O.contents
+    // How each station's lines were answered, and what became of the store. A station that may give no orders gave none.
+    ensures served { IfOk result (λ many. HasServed D.view J J.base terms.entry.orders I.remaining O.contents
         (store_view store) ports.items (store_view many.store) many.runs.items) }
 
     // Which fault comes, and that the store comes back as it was.
@@ -237,23 +248,25 @@ pub fn run_many<
     if !has_place(register_of(&store), stations) {
         return Err((CentreFault::NoPlace, store));
     }
-    let ManyTerms { alloc, turns, log } = terms;
+    let ManyTerms {
+        alloc,
+        orders,
+        turns,
+        log,
+    } = terms;
     let Ok(room) = room_for(alloc, stations) else {
         return Err((CentreFault::NoMemory, store));
     };
     match open_centre::<J, D, R>(rt, alloc, log, store, stations) {
         Ok(opened) => {
-            let serving = Serving {
+            let shared = Shared {
                 rt,
                 watch,
                 alloc,
                 turns,
-            };
-            let shared = Shared {
-                serving,
                 refused: AtomicU64::new(0),
             };
-            Ok(serve_opened(&shared, opened, ports, room))
+            Ok(serve_opened(&shared, opened, ports, orders, room))
         }
         Err(fault) => Err(fault),
     }

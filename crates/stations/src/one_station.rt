@@ -5,6 +5,7 @@ ghost use Rattle.console.specs.Failures.{failures_reported};
 ghost use Rattle.flusher.specs.Sessions.{IsSameSession};
 ghost use Rattle.stations.specs.GoesOn.{GoesOn};
 ghost use Rattle.stations.specs.OneRun.{IsRunBy};
+ghost use Rattle.stations.specs.Orders.{Submits};
 
 use crate::session_desk::{Began, SessionDesk};
 use crate::watch::Watch;
@@ -17,7 +18,7 @@ use std::marker::Brand;
 use std::sync::Wait;
 use std::sync::ledger::Ledger;
 
-/// What each run of a station is given.
+/// What the run of a station is given.
 #[derive(Clone, Copy)]
 pub struct Serving<'r, 'w, R, V> {
     /// The runtime, which lets it wait.
@@ -28,10 +29,12 @@ pub struct Serving<'r, 'w, R, V> {
     pub alloc: Global,
     /// The most calls of its reader.
     pub turns: u32,
+    /// Whether the station may give orders.
+    pub orders: bool,
 }
 
 /// Answers the lines of a station by its session, as [`run_counted`] does. The session comes back, of the same station, on the same
-/// queue and channel.
+/// queue and channel. If the station may give no orders, none was submitted.
 pub fn run_session<
     J: Centre,
     R: Wait,
@@ -48,10 +51,11 @@ pub fn run_session<
     session: Session<J>,
 ) -> (Session<J>, Result<Ran, RunFault>)
     // How the lines were answered, and what the session is then.
-    ensures answers { IsRunBy J J.base session (I.remaining input.old.reader.now) (O.contents output.old.writer.now)
+    ensures answers { IsRunBy J J.base serving.now.orders session (I.remaining input.old.reader.now) (O.contents output.old.writer.now)
         result.1 result.0 (O.contents output.new.writer.now) }
     ensures same { IsSameSession session result.0 }
     ensures seen { IsPrefix session.viewer result.0.viewer }
+    ensures submits { Submits serving.now.orders session.sender.sent result.0.sender.sent }
 
     // How often the reader was called, and when each fault comes.
     ensures calls { input.new.steps.now ≤ input.old.steps.now + serving.now.turns }
@@ -87,10 +91,11 @@ fn run_begun<
     output: &mut Output<O, G>,
     session: Session<J>,
 ) -> (Session<J>, Result<Ran, RunFault>)
-    requires { GoesOn K.began session }
-    ensures answers { IsRunBy J J.base session (I.remaining input.old.reader.now) (O.contents output.old.writer.now)
+    requires goes_on { GoesOn K.may_order K.began session }
+    requires orders { serving.now.orders ≡ K.may_order }
+    ensures answers { IsRunBy J J.base serving.now.orders session (I.remaining input.old.reader.now) (O.contents output.old.writer.now)
         result.1 result.0 (O.contents output.new.writer.now) }
-    ensures goes_on { GoesOn K.began result.0 }
+    ensures goes_on { GoesOn K.may_order K.began result.0 }
     ensures calls { input.new.steps.now ≤ input.old.steps.now + serving.now.turns }
     ensures read { IsErrOf result.1 RunFault.Read →
         (input.new.steps.now ≡ input.old.steps.now + serving.now.turns) ⊎ (input.old.faults.now < input.new.faults.now) }
@@ -105,9 +110,10 @@ fn run_begun<
     let terms = Terms {
         alloc: serving.alloc,
         station: session.station(),
+        orders: serving.orders,
         turns: serving.turns,
     };
-    let mut desk = SessionDesk::<K, J, R, V>::new(serving.rt, serving.watch, session);
+    let mut desk = SessionDesk::<K, J, R, V>::new(serving, session);
     let ran = run_counted(terms, input, output, &mut desk);
     (desk.into_session(), ran)
 }

@@ -1,16 +1,19 @@
 //! A station's session as a desk.
-ghost use Rattle.std.specs.Prelude.{◌≡◌, ◌≤◌, ◌+◌, ◌++◌, [], All, IfErr, IfOk, IfSome, IsTrue, OnErr, OnOk, length, map, vec_capacity, vec_len};
+ghost use Rattle.std.specs.Prelude.{◌≡◌, ◌≤◌, ◌+◌, ◌++◌, [], true, All, IfErr, IfOk, IfSome, IsTrue, OnErr, OnOk, length, map, vec_capacity, vec_len};
 ghost use mathlib.Core.List.{IsPrefix};
+ghost use Rattle.console.specs.Reading.{is_order};
 ghost use Rattle.desk.specs.Listed.{IsListed, IsUnlisted};
 ghost use Rattle.desk.specs.Replies.{HasShortPdu};
 ghost use Rattle.desk.specs.Rules.{AreApplied};
 ghost use Rattle.flusher.specs.Sessions.{IsSameSession};
 ghost use Rattle.flusher.specs.Submitted.{HasShortAnswer};
 ghost use Rattle.stations.specs.OfSession.{AtSession, Applies, Answers, at_session, of_session, result_of, word_of};
+ghost use Rattle.stations.specs.Orders.{is_allowed};
 
 use crate::listing::list;
+use crate::one_station::Serving;
 use crate::watch::Watch;
-use centre_core::{Command, Query, QueryAnswer, Reply};
+use centre_core::{Body, Command, Query, QueryAnswer, Reply};
 use desk::{Desk, Outage};
 use flusher::{Answer, Session};
 use listings::Listing;
@@ -21,31 +24,40 @@ use std::alloc::Global;
 use std::marker::{Brand, Model, PhantomData};
 use std::sync::Wait;
 
-/// What a session was when its run began. A run picks it, so that contracts can say at its end what has stayed.
+/// What a session was when its run began, and whether its station may give orders. A run picks them, so that contracts can say at its
+/// end what has stayed.
 pub(crate) trait Began {
-    ghost use Rattle.std.specs.Prelude.{Option};
+    ghost use Rattle.std.specs.Prelude.{Bool, Option};
     ghost use Rattle.stations.specs.GoesOn.{Beginning};
 
     ghost began: { Option Beginning };
+
+    ghost may_order: { Bool };
 }
 
 // A run names its session by `Brand`, and its proof says which one is meant.
 impl Began for Brand {
-    ghost use Rattle.std.specs.Prelude.{None};
+    ghost use Rattle.std.specs.Prelude.{None, true};
 
     ghost began = { None };
+
+    ghost may_order = { true };
 }
 
-/// A station's session as a desk: it submits commands of that station, and reads the register. Contracts model it as the session.
+/// A station's session as a desk: it submits commands of that station, but no orders if the station may give none, and reads the
+/// register. Contracts model it as the session.
 #[derive(Drop)]
 pub(crate) struct SessionDesk<'r, 'w, K: Began, J: Centre, R: Wait, V: Watch> {
     rt: &'r R,
     watch: &'w V,
+    /// Whether the station may give orders.
+    orders: bool,
     session: Session<J>,
     of: PhantomData<K>,
 }
 
 impl<'r, 'w, K: Began, J: Centre, R: Wait, V: Watch> Model for SessionDesk<'r, 'w, K, J, R, V> {
+    ghost use Rattle.std.specs.Prelude.{◌≡◌};
     ghost use Rattle.flusher.specs.declared.session.Session.{Session};
     ghost use Rattle.stations.specs.GoesOn.{GoesOn};
 
@@ -53,21 +65,23 @@ impl<'r, 'w, K: Began, J: Centre, R: Wait, V: Watch> Model for SessionDesk<'r, '
 
     ghost view = { λ d. d.session };
 
-    ghost invariant = { λ d. GoesOn K.began d.session };
+    ghost invariant = { λ d. GoesOn K.may_order K.began d.session × (d.orders ≡ K.may_order) };
 }
 
 impl<'r, 'w, K: Began, J: Centre, R: Wait, V: Watch> SessionDesk<'r, 'w, K, J, R, V> {
     ghost use Rattle.std.specs.Prelude.{◌≡◌};
     ghost use Rattle.stations.specs.GoesOn.{GoesOn};
 
-    /// This session as a desk. `watch` is shown what it does.
-    pub(crate) fn new(rt: &'r R, watch: &'w V, session: Session<J>) -> Self
-        requires { GoesOn K.began session }
+    /// This session as a desk. The watch is shown what it does.
+    pub(crate) fn new(serving: &Serving<'r, 'w, R, V>, session: Session<J>) -> Self
+        requires goes_on { GoesOn K.may_order K.began session }
+        requires orders { serving.now.orders ≡ K.may_order }
         ensures { result ≡ session }
     {
         SessionDesk {
-            rt,
-            watch,
+            rt: serving.rt,
+            watch: serving.watch,
+            orders: serving.orders,
             session,
             of: PhantomData,
         }
@@ -86,7 +100,7 @@ impl<'r, 'w, K: Began, J: Centre, R: Wait, V: Watch> SessionDesk<'r, 'w, K, J, R
     /// The session.
     pub(crate) fn into_session(self) -> Session<J>
         ensures same { result ≡ self.entry }
-        ensures goes_on { GoesOn K.began result }
+        ensures goes_on { GoesOn K.may_order K.began result }
     {
         self.session
     }
@@ -122,14 +136,42 @@ fn result_of<J: Centre>(answer: Answer<J>) -> Result<Reply<Global>, Outage>
     }
 }
 
-// Submits a copy of a command, if it is of the session's station.
-fn submit<J: Centre, R: Wait>(
-    rt: &R,
-    session: &mut Session<J>,
+// Whether a command is an order.
+fn is_order(body: &Body<Global>) -> bool
+    ensures { result ≡ is_order body.now }
+{
+    match body {
+        Body::RuleSet { .. } => true,
+        Body::RuleClear { .. } => true,
+        Body::Expire => true,
+        Body::Delete(_) => true,
+        _ => false,
+    }
+}
+
+// What commands are submitted with.
+#[derive(Drop)]
+struct Means<'r, R> {
+    rt: &'r R,
     alloc: Global,
+    // Whether the session's station may give orders.
+    orders: bool,
+}
+
+// Whether a command may be given by a station that may give orders, or may not.
+fn is_allowed(orders: bool, command: &Command<Global>) -> bool
+    ensures { result ≡ is_allowed orders command.now }
+{
+    orders || !is_order(&command.body)
+}
+
+// Submits a copy of a command, if it is of the session's station and no order that this may not give.
+fn submit<J: Centre, R: Wait>(
+    means: &Means<'_, R>,
+    session: &mut Session<J>,
     command: &Command<Global>,
 ) -> Result<Reply<Global>, Outage>
-    ensures applies { Applies J J.base (at_session session.old) command.now result (at_session session.new) }
+    ensures applies { Applies J J.base means.now.orders (at_session session.old) command.now result (at_session session.new) }
     ensures short { IfOk result HasShortPdu }
     ensures same { IsSameSession session.old session.new }
     ensures seen { IsPrefix session.old.viewer session.new.viewer }
@@ -137,38 +179,45 @@ fn submit<J: Centre, R: Wait>(
     if command.station != session.station() {
         return Err(Outage::Closed);
     }
-    match command.try_copy(alloc) {
-        Ok(own) => result_of(session.submit(rt, own)),
+    if !is_allowed(means.orders, command) {
+        return Err(Outage::Closed);
+    }
+    match command.try_copy(means.alloc) {
+        Ok(own) => result_of(session.submit(means.rt, own)),
         Err(_) => Err(Outage::Memory),
     }
 }
 
-// Whether all of these commands are of this station.
-fn are_of(station: Station, commands: &[Command<Global>]) -> bool
-    ensures { IsTrue result → All (λ c. c.station ≡ station) commands.now }
+// Whether all of these commands are of this station, and none is an order that it may not give.
+fn are_of(station: Station, orders: bool, commands: &[Command<Global>]) -> bool
+    ensures { IsTrue result → All (λ c. (c.station ≡ station) × (is_allowed orders c ≡ true)) commands.now }
 {
     for k in 0..commands.len() {
         let command: &Command<Global> = &commands[k];
         if command.station != station {
             return false;
         }
+        if !is_allowed(orders, command) {
+            return false;
+        }
     }
     true
 }
 
-// Room for the answers to commands of this station. `None` if memory runs out, or one is of another station.
-fn room_for<J: Centre>(
-    alloc: Global,
+// Room for the answers to commands of this station. `None` if memory runs out, or one is of another station, or an order that this
+// may not give.
+fn room_for<J: Centre, R>(
+    means: &Means<'_, R>,
     station: Station,
     commands: &[Command<Global>],
 ) -> Option<Vec<Answer<J>>>
-    ensures station { IfSome result (λ answers. All (λ c. c.station ≡ station) commands.now) }
+    ensures station { IfSome result (λ answers. All (λ c. (c.station ≡ station) × (is_allowed means.now.orders c ≡ true)) commands.now) }
     ensures room { IfSome result (λ answers. length commands.now ≤ vec_capacity answers) }
 {
-    if !are_of(station, commands) {
+    if !are_of(station, means.orders, commands) {
         return None;
     }
-    match Vec::with_capacity(alloc, commands.len()) {
+    match Vec::with_capacity(means.alloc, commands.len()) {
         Ok(answers) => Some(answers),
         Err(_) => None,
     }
@@ -190,49 +239,47 @@ fn put_results<J: Centre>(answers: Vec<Answer<J>>, replies: &mut Vec<Result<Repl
 
 // Submits copies of commands one at a time.
 fn submit_each<J: Centre, R: Wait>(
-    rt: &R,
+    means: &Means<'_, R>,
     session: &mut Session<J>,
-    alloc: Global,
     commands: &[Command<Global>],
     replies: &mut Vec<Result<Reply<Global>, Outage>>,
 )
     requires none { replies.old.items ≡ [] }
     requires room { length commands.now ≤ vec_capacity replies.old }
-    ensures applies { AreApplied (of_session J J.base) (at_session session.old) commands.now replies.new.items (at_session session.new) }
+    ensures applies { AreApplied (of_session J J.base means.now.orders) (at_session session.old) commands.now replies.new.items (at_session session.new) }
     ensures short { All (λ reply. IfOk reply HasShortPdu) replies.new.items }
     ensures room { vec_capacity replies.new ≡ vec_capacity replies.old }
     ensures same { IsSameSession session.old session.new }
     ensures seen { IsPrefix session.old.viewer session.new.viewer }
 {
     for k in 0..commands.len() {
-        let reply = submit(rt, session, alloc, &commands[k]);
+        let reply = submit(means, session, &commands[k]);
         replies.push_reserved(reply);
     }
 }
 
-// Submits copies of commands together. If there is no memory for all answers, or one command is of another station, they are
+// Submits copies of commands together. If there is no memory for all answers, or one command is not to be submitted, they are
 // submitted one at a time.
 fn submit_all<J: Centre, R: Wait>(
-    rt: &R,
+    means: &Means<'_, R>,
     session: &mut Session<J>,
-    alloc: Global,
     commands: &[Command<Global>],
     replies: &mut Vec<Result<Reply<Global>, Outage>>,
 )
     requires few { length commands.now ≤ session.old.share }
     requires room { length commands.now ≤ vec_capacity replies.old }
-    ensures applies { AreApplied (of_session J J.base) (at_session session.old) commands.now replies.new.items (at_session session.new) }
+    ensures applies { AreApplied (of_session J J.base means.now.orders) (at_session session.old) commands.now replies.new.items (at_session session.new) }
     ensures short { All (λ reply. IfOk reply HasShortPdu) replies.new.items }
     ensures room { vec_capacity replies.new ≡ vec_capacity replies.old }
     ensures same { IsSameSession session.old session.new }
     ensures seen { IsPrefix session.old.viewer session.new.viewer }
 {
     replies.clear();
-    let Some(mut answers) = room_for(alloc, session.station(), commands) else {
-        submit_each(rt, session, alloc, commands, replies);
+    let Some(mut answers) = room_for(means, session.station(), commands) else {
+        submit_each(means, session, commands, replies);
         return;
     };
-    session.submit_all(rt, commands, &mut answers);
+    session.submit_all(means.rt, commands, &mut answers);
     put_results(answers, replies);
 }
 
@@ -245,6 +292,7 @@ fn read<J: Centre>(
     ensures answers { Answers J J.base (at_session session.old) query.now result (at_session session.new) }
     ensures same { IsSameSession session.old session.new }
     ensures seen { IsPrefix session.old.viewer session.new.viewer }
+    ensures sent { session.new.sender.sent ≡ session.old.sender.sent }
 {
     match session.read(alloc, query) {
         Ok((query_answer, _)) => Ok(query_answer),
@@ -259,7 +307,7 @@ impl<'r, 'w, K: Began, J: Centre, R: Wait, V: Watch> Desk<Global>
 
     ghost world = { λ session. at_session session };
 
-    ghost rules = { of_session J J.base };
+    ghost rules = { of_session J J.base K.may_order };
 
     ghost most = { λ session. session.share };
 
@@ -270,7 +318,12 @@ impl<'r, 'w, K: Began, J: Centre, R: Wait, V: Watch> Desk<Global>
     fn apply(&mut self, alloc: Global, command: &Command<Global>) -> Result<Reply<Global>, Outage> {
         let station = self.session.station();
         self.watch.before_entry(station);
-        let replied = submit(self.rt, &mut self.session, alloc, command);
+        let means = Means {
+            rt: self.rt,
+            alloc,
+            orders: self.orders,
+        };
+        let replied = submit(&means, &mut self.session, command);
         self.watch.after_entry(station);
         self.show(&replied);
         replied
@@ -284,7 +337,12 @@ impl<'r, 'w, K: Began, J: Centre, R: Wait, V: Watch> Desk<Global>
     ) {
         let station = self.session.station();
         self.watch.before_entry(station);
-        submit_all(self.rt, &mut self.session, alloc, commands, replies);
+        let means = Means {
+            rt: self.rt,
+            alloc,
+            orders: self.orders,
+        };
+        submit_all(&means, &mut self.session, commands, replies);
         self.watch.after_entry(station);
         for k in 0..replies.len() {
             self.show(&replies[k]);
@@ -298,7 +356,7 @@ impl<'r, 'w, K: Began, J: Centre, R: Wait, V: Watch> Desk<Global>
     }
 
     fn list(&mut self, listing: &Listing, out: &mut Vec<u8, Global>) -> Result<(), Outage> {
-        let listed = list(&mut self.session, listing, out);
+        let listed = list::<K, J>(&mut self.session, listing, out);
         self.watch.answered(self.session.station(), false);
         listed
     }

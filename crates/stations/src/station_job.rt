@@ -2,6 +2,7 @@
 ghost use Rattle.std.specs.Prelude.{◌≡◌, ◌<◌};
 ghost use Rattle.flusher.specs.Sessions.{IsSameSession, view_of};
 ghost use Rattle.stations.specs.Done.{IsDone, IsRunOf};
+ghost use Rattle.stations.specs.Orders.{Submits};
 
 use crate::job::{Done, Job};
 use crate::one_station::{Serving, run_session};
@@ -12,6 +13,7 @@ use flusher::Session;
 use prefix_tree::Steps;
 use registration::Station;
 use snapshots::Centre;
+use std::alloc::Global;
 use std::io::{Read, Write};
 use std::marker::Brand;
 use std::sync::Wait;
@@ -21,7 +23,11 @@ use std::sync::ledger::{Blank, Ledger};
 /// What the threads of a run share.
 #[derive(Drop)]
 pub(crate) struct Shared<'r, 'w, R: Wait, V: Watch> {
-    pub(crate) serving: Serving<'r, 'w, R, V>,
+    pub(crate) rt: &'r R,
+    pub(crate) watch: &'w V,
+    pub(crate) alloc: Global,
+    /// The most calls of each reader.
+    pub(crate) turns: u32,
     /// The last station for which no thread could be made; 0 if there was none.
     pub(crate) refused: AtomicU64,
 }
@@ -50,9 +56,10 @@ fn answer_in<L: Ledger, F: Ledger, G: Ledger, J: Centre, R: Wait, V: Watch, I: R
     requires failures_name { blanks.failures.name ≡ G.name }
     requires failures_parts { blanks.failures.parts ≡ G.parts }
     requires failures_some { 0 < blanks.failures.parts }
-    ensures answers { IsRunOf J J.base session.sender.station (I.remaining reader.old) (O.contents writer.old) (view_of session) (view_of result.0)
+    ensures answers { IsRunOf J J.base (record { station = session.sender.station; orders = serving.now.orders }) (I.remaining reader.old) (O.contents writer.old) (view_of session) (view_of result.0)
         (O.contents writer.new) result.1 }
     ensures same { IsSameSession session result.0 }
+    ensures submits { Submits serving.now.orders session.sender.sent result.0.sender.sent }
 {
     let Blanks {
         steps,
@@ -74,9 +81,10 @@ fn answer_lines<J: Centre, R: Wait, V: Watch, I: Read, O: Write>(
     writer: &mut O,
     session: Session<J>,
 ) -> (Session<J>, Result<Ran, RunFault>)
-    ensures answers { IsRunOf J J.base session.sender.station (I.remaining reader.old) (O.contents writer.old) (view_of session) (view_of result.0)
+    ensures answers { IsRunOf J J.base (record { station = session.sender.station; orders = serving.now.orders }) (I.remaining reader.old) (O.contents writer.old) (view_of session) (view_of result.0)
         (O.contents writer.new) result.1 }
     ensures same { IsSameSession session result.0 }
+    ensures submits { Submits serving.now.orders session.sender.sent result.0.sender.sent }
 {
     let blanks = Blanks {
         steps: Blank::new(1),
@@ -93,6 +101,19 @@ impl<'r, 'w, R: Wait, V: Watch> Shared<'r, 'w, R, V> {
             .store(u64::from(station.number()), Ordering::SeqCst);
     }
 
+    // What the run of a station is given that may give orders or may not.
+    fn serving(&self, orders: bool) -> Serving<'r, 'w, R, V>
+        ensures { result.orders ≡ orders }
+    {
+        Serving {
+            rt: self.rt,
+            watch: self.watch,
+            alloc: self.alloc,
+            turns: self.turns,
+            orders,
+        }
+    }
+
     // Whether this station is the one noted.
     fn is_refused(&self, station: Station) -> bool {
         self.refused.load(Ordering::SeqCst) == u64::from(station.number())
@@ -102,18 +123,20 @@ impl<'r, 'w, R: Wait, V: Watch> Shared<'r, 'w, R, V> {
 // Answers the lines of a station. If no thread could be made for it, its run ends out of memory before its first line.
 fn run_station<J: Centre, R: Wait, V: Watch, I: Read, O: Write>(
     shared: &Shared<R, V>,
+    orders: bool,
     reader: &mut I,
     writer: &mut O,
     session: Session<J>,
 ) -> (Session<J>, Result<Ran, RunFault>)
-    ensures answers { IsRunOf J J.base session.sender.station (I.remaining reader.old) (O.contents writer.old) (view_of session) (view_of result.0)
+    ensures answers { IsRunOf J J.base (record { station = session.sender.station; orders = orders }) (I.remaining reader.old) (O.contents writer.old) (view_of session) (view_of result.0)
         (O.contents writer.new) result.1 }
     ensures same { IsSameSession session result.0 }
+    ensures submits { Submits orders session.sender.sent result.0.sender.sent }
 {
     if shared.is_refused(session.station()) {
         return (session, Err(RunFault::NoMemory));
     }
-    answer_lines(&shared.serving, reader, writer, session)
+    answer_lines(&shared.serving(orders), reader, writer, session)
 }
 
 /// Answers the lines of a station, and ends its session, whatever came of the run.
@@ -123,17 +146,21 @@ pub(crate) fn serve<J: Centre, R: Wait, V: Watch, I: Read + Drop, O: Write + Dro
 ) -> Done<J, O>
     ensures { IsDone J J.base I.remaining O.contents job result }
 {
-    let Job { session, port } = job;
+    let Job {
+        session,
+        orders,
+        port,
+    } = job;
     let Port {
         mut reader,
         mut writer,
     } = port;
-    let (session, ran) = run_station(shared, &mut reader, &mut writer, session);
+    let (session, ran) = run_station(shared, orders, &mut reader, &mut writer, session);
     let station = session.station();
-    let watch = shared.serving.watch;
+    let watch = shared.watch;
     watch.ended(station, &ran);
     watch.before_entry(station);
-    let ended = session.finish(shared.serving.rt);
+    let ended = session.finish(shared.rt);
     watch.after_entry(station);
     Done { ended, writer, ran }
 }

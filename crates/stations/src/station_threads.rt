@@ -173,8 +173,8 @@ fn serve_in<
     ensures done { AllZip (λ job done. IsDone J J.base I.remaining O.contents job done) jobs.items result.items }
 {
     let begun = begin_all(scope, shared, jobs, room.begun);
-    flusher.run(shared.serving.rt, shared.serving.watch);
-    end_all(shared.serving.rt, begun, room.done)
+    flusher.run(shared.rt, shared.watch);
+    end_all(shared.rt, begun, room.done)
 }
 
 // The same of a flusher that is passed by value.
@@ -227,7 +227,7 @@ pub(crate) fn serve_all<
 {
     thread::scope(
         thread::scope_env(),
-        shared.serving.rt,
+        shared.rt,
         move |scope| -> (Held<R, J, D>, Vec<Done<J, O>>)
             requires { IsSettled J.base (view_of held.flusher) × (vec_len jobs ≤ room.stations) }
             ensures { HasFlushed D.view J.base (view_of held.entry.flusher) (view_of result.0.flusher)

@@ -9,7 +9,7 @@ use live_centre::{WatchedDisk, comes_to};
 use recovery::Store;
 use registration::Station;
 use snapshots::{Centre, NewLog};
-use stations::{Many, ManyTerms, Port, Watch, run_many};
+use stations::{Many, ManyTerms, Orders, Port, Watch, run_many};
 use std::alloc::Global;
 use std::io;
 use std::io::{ErrorKind, Read};
@@ -153,7 +153,7 @@ fn port_of<'a>(
 // The runs of two stations. The first one's reader does this at its first call.
 fn both<J: Centre + Send + Sync, R: Threads + Wait + Sync>(
     rt: &R,
-    terms: ManyTerms,
+    terms: ManyTerms<'_>,
     store: Store<Global, WatchedDisk>,
     first: First,
     stages: &Stages,
@@ -190,6 +190,7 @@ fn served<R: Threads + Wait + Sync>(
     let store = new_store(alloc)?;
     let terms = ManyTerms {
         alloc,
+        orders: Orders::OfAll,
         turns: 1_000,
         log: NewLog::new(),
     };

@@ -9,7 +9,7 @@ use live_centre::WatchedDisk;
 use recovery::Store;
 use registration::Station;
 use snapshots::{Centre, NewLog};
-use stations::{Many, ManyTerms, Port, Watch, run_many};
+use stations::{Many, ManyTerms, Orders, Port, Watch, run_many};
 use std::alloc::Global;
 use std::io;
 use std::io::{ErrorKind, Read, Write};
@@ -148,7 +148,7 @@ struct First {
 // The runs of two stations. All lines of the second come together.
 fn both<J: Centre + Send + Sync, R: Threads + Wait + Sync>(
     rt: &R,
-    terms: ManyTerms,
+    terms: ManyTerms<'_>,
     store: Store<Global, WatchedDisk>,
     first: First,
     shown: &Shown,
@@ -199,6 +199,7 @@ fn served<R: Threads + Wait + Sync>(
     let store = new_store(alloc)?;
     let terms = ManyTerms {
         alloc,
+        orders: Orders::OfAll,
         turns: 1_000,
         log: NewLog::new(),
     };

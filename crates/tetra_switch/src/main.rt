@@ -14,13 +14,13 @@ use registration::{Limits, Station};
 use sector_disk::Disk;
 use served_disk::{
     CountedReader, CountedWriter, Fault, PortNames, Progress, Served, ServiceWatch, TURNS, Tally,
-    WatchedDesk, WatchedReader, check_disk, check_names, check_stations, dump_disk, file_names,
-    format_disk, inputs_of, layout_of, load_register, make_disk_with, name_ended, names_of,
-    not_read, open_disk, open_files, outcome, pairs_of, ports_of, print_formatted, print_loaded,
-    print_stations, serve_stations, service_outcome, show_disk,
+    WatchedDesk, WatchedReader, check_disk, check_names, check_orders, check_pairs, check_stations,
+    dump_disk, file_names, format_disk, inputs_of, layout_of, load_register, make_disk_with,
+    name_ended, names_of, not_read, open_disk, open_files, outcome, pairs_of, ports_of,
+    print_formatted, print_loaded, print_stations, serve_stations, service_outcome, show_disk,
 };
 use snapshots::NewLog;
-use stations::{ManyTerms, Port, Watch};
+use stations::{ManyTerms, Orders, Port, Watch};
 use std::alloc::Global;
 use std::fs::{File, Files};
 use std::io::{IsTerminal, Read, Write};
@@ -51,18 +51,31 @@ fn main(rt: HostRuntime) -> ExitCode {
     let ended = match &request {
         Request::Memory => status_of(serve_memory(&rt)),
         Request::Format { settings, disk } => status_of(make_disk(&rt, settings, disk)),
-        Request::Run { disk, files } => {
+        Request::Run {
+            disk,
+            files,
+            orders,
+        } => {
             let watched = rt.stderr().is_terminal();
-            status_of(run_files(&rt, rt.alloc(), disk, files, watched))
+            let served = ServedDisk { disk, orders };
+            status_of(run_files(&rt, rt.alloc(), served, files, watched))
         }
-        Request::Serve { disk, pairs } if pairs.is_empty() => {
+        Request::Serve {
+            disk,
+            pairs,
+            orders,
+        } if pairs.is_empty() => {
             let port = Port {
                 reader: rt.stdin(),
                 writer: rt.stdout(),
             };
-            serve_port(&rt, rt.alloc(), disk, port)
+            serve_port(&rt, rt.alloc(), ServedDisk { disk, orders }, port)
         }
-        Request::Serve { disk, pairs } => serve_pairs(&rt, rt, disk, pairs),
+        Request::Serve {
+            disk,
+            pairs,
+            orders,
+        } => serve_pairs(&rt, rt, ServedDisk { disk, orders }, pairs),
         Request::Show { disk, words } => status_of(show_words(&rt, disk, words)),
         Request::Dump { disk } => status_of(dump_register(&rt, disk)),
         Request::Load {
@@ -242,17 +255,35 @@ fn open_for<'a, R: Files<File = File>>(
     }
 }
 
+/// A disk that is served, and the stations that may give orders; without any, each may.
+#[derive(Clone, Copy)]
+struct ServedDisk<'a, 'o> {
+    disk: &'a str,
+    orders: &'o [u16],
+}
+
+/// What a run of stations is given. These may give orders; all, if none is named.
+fn terms_of(alloc: Global, orders: &[u16]) -> ManyTerms<'_> {
+    ManyTerms {
+        alloc,
+        orders: Orders::by(orders),
+        turns: TURNS,
+        log: NewLog::new(),
+    }
+}
+
 /// Serves the lines of each file as those of stations 1, 2 and so on, over the register on a disk, and prints the answers.
 fn run_files<'a, R: Threads + Wait + Sync + Clock + Print + Eprint + Files<File = File>>(
     rt: &R,
     alloc: Global,
-    disk: &'a str,
+    target: ServedDisk<'a, '_>,
     files: &[&'a str],
     watched: bool,
 ) -> Result<bool, Fault<'a>> {
     check_names(alloc, files)?;
+    check_orders(target.orders, files.len())?;
     let names = file_names(alloc, files)?;
-    let store = open_for(rt, alloc, disk, files.len())?;
+    let store = open_for(rt, alloc, target.disk, files.len())?;
     let Ok(progress) = Progress::of_many(rt, alloc, watched, files.len()) else {
         drop(store);
         return Err(Fault::Memory);
@@ -264,7 +295,8 @@ fn run_files<'a, R: Threads + Wait + Sync + Clock + Print + Eprint + Files<File 
             return Err(fault);
         }
     };
-    let served = serve_ports(rt, alloc, store, ports, &progress)?;
+    let terms = terms_of(alloc, target.orders);
+    let served = serve_ports(rt, terms, store, ports, &progress)?;
     report(rt, &names, &served, &progress)
 }
 
@@ -277,7 +309,7 @@ fn serve_ports<
     V: Watch + Sync,
 >(
     rt: &R,
-    alloc: Global,
+    terms: ManyTerms<'_>,
     store: Store<Global, FileDisk<HostFile>>,
     ports: Vec<Port<I, O>>,
     watch: &V,
@@ -285,11 +317,6 @@ fn serve_ports<
     requires sound { store.broken ≡ false }
     ensures { IfOk result (λ served. length served.runs.items ≡ length ports.items) }
 {
-    let terms = ManyTerms {
-        alloc,
-        turns: TURNS,
-        log: NewLog::new(),
-    };
     serve_stations::<Brand, FileDisk<HostFile>, R, I, O, V>(rt, terms, store, ports, watch)
 }
 
@@ -320,32 +347,36 @@ fn serve_port<
     R: Threads + Wait + Sync + Eprint + Files<File = File>,
     I: Read + Send + Drop,
     O: Write + Send + Drop,
->(rt: &R, alloc: Global, disk: &'a str, port: Port<I, O>) -> Result<u8, Fault<'a>> {
+>(rt: &R, alloc: Global, target: ServedDisk<'a, '_>, port: Port<I, O>) -> Result<u8, Fault<'a>> {
+    check_orders(target.orders, 1)?;
     let named: [(&'a str, &'a str); 1] = [("-", "-")];
     let pairs = pairs_of(alloc, &named)?;
     let Ok(mut ports) = Vec::with_capacity(alloc, 1) else {
         return Err(Fault::Memory);
     };
     ports.push_reserved(port);
-    let store = open_for(rt, alloc, disk, 1)?;
+    let store = open_for(rt, alloc, target.disk, 1)?;
     let watch = ServiceWatch::new(rt, alloc, &pairs);
-    serve_watched(rt, store, ports, &watch)
+    serve_watched(rt, target.orders, store, ports, &watch)
 }
 
-/// Serves the pairs of files of stations 1, 2 and so on, over the register on a disk. `Ok` has the exit status.
+/// Serves the pairs of files of stations 1, 2 and so on, over the register on a disk. A station whose IN and OUT are both `-` is left
+/// out. `Ok` has the exit status.
 fn serve_pairs<'a, R: Threads + Wait + Sync + Eprint>(
     rt: &R,
     host: HostRuntime,
-    disk: &'a str,
+    target: ServedDisk<'a, '_>,
     named: &[(&'a str, &'a str)],
 ) -> Result<u8, Fault<'a>> {
     let alloc = host.alloc();
+    check_pairs(named)?;
+    check_orders(target.orders, named.len())?;
     check_names(alloc, &inputs_of(alloc, named)?)?;
     let pairs = pairs_of(alloc, named)?;
     let ports = ports_of(rt, host, alloc, &pairs)?;
-    let store = open_for(&host, alloc, disk, named.len())?;
+    let store = open_for(&host, alloc, target.disk, named.len())?;
     let watch = ServiceWatch::new(rt, alloc, &pairs);
-    serve_watched(rt, store, ports, &watch)
+    serve_watched(rt, target.orders, store, ports, &watch)
 }
 
 /// Serves these ports; each answer is written as it comes. `Ok` has the exit status.
@@ -356,6 +387,7 @@ fn serve_watched<
     O: Write + Send + Drop,
 >(
     rt: &R,
+    orders: &[u16],
     store: Store<Global, FileDisk<HostFile>>,
     ports: Vec<Port<I, O>>,
     watch: &ServiceWatch<'_, '_, 'a, R>,
@@ -370,7 +402,8 @@ fn serve_watched<
             return Err(fault);
         }
     };
-    let served = serve_ports(rt, watch.alloc(), store, ports, watch)?;
+    let terms = terms_of(watch.alloc(), orders);
+    let served = serve_ports(rt, terms, store, ports, watch)?;
     name_ended(rt, &mut names, watch.pairs());
     match service_outcome(&names, &served) {
         Err(Fault::Device) if watch.has_told() => Ok(Fault::Device.status()),

@@ -7,7 +7,7 @@ from streams import RULE_BODY, U, demand, detach, numbered, text
 V, G = '234-14-2002', '234-14-1000'
 COMMANDS = [RULE_BODY, 'unrule 234-14-2001/48', f'mm {U} 7 60:7380480A00007D0', f'sds {U} {V} 48:820405014849', f'gsds {U} {G} 48:820405014849', f'sent {V} {U} 5 m', 'expire', f'delete {V} {U} 5 r']
 QUERIES = [f'where {U}', f'look {V}', f'groups {U}', f'members {G}', f'mail {V}', 'count',
-           'rules', 'radios', 'radios 234-14-0/24', 'items', 'due 3600', 'last 1', 'room']
+           'rules', 'radios', 'radios 234-14-0/24', 'items', 'due 3600', 'last 1', 'room', 'mark here', 'station']
 
 
 def numbers():
@@ -25,7 +25,7 @@ def numbers():
     queries = [f'{word} {name}' for word in ('where', 'look', 'groups', 'members', 'mail')
                for name in ('{}', '{}-14-2001', '234-{}-2001', '234-14-{}', '234-14-2001 {}')]
     queries += [f'radios {name}' for name in ('{}', '{}/48', '{}-0-0/10', '234-{}-0/24', '234-14-{}/48', '0-0-0/{}', '234-14-2000/{}', '0-0-0/0 {}')]
-    queries += ['due {}', 'last {}', 'due 1 {}', 'last 1 {}', 'rules {}', 'items {}', 'room {}']
+    queries += ['due {}', 'last {}', 'due 1 {}', 'last 1 {}', 'rules {}', 'items {}', 'room {}', 'mark {}', 'mark 1 {}', 'station {}', 'station 1 {}']
     fields = [('1023', '1024'), ('16383', '16384'), ('16777215', '16777216')]
     edges = [f'{word} {"-".join(parts)}' for word in ('where', 'look', 'groups', 'members', 'mail')
              for parts in itertools.product(*fields)]
@@ -44,6 +44,29 @@ def wrong_words():
         yield text(lines + [form + ' ', ' ' + form, form + ' x', form])
     kinds = ('m', 'r', 'M', 'R', '', 'mm', 'x', '0', '-', 'm:', '\xb5', '[', 'l', 'n', 'q', 's')
     yield text(f'1 0 {word} {V} {U} 5 {kind}' for word in ('sent', 'delete') for kind in kinds)
+
+
+def marks():
+    """Marks of each length about the greatest, of each byte, and with words more; before and after other words."""
+    yield text(f'mark {"x" * length}' for length in (*range(36), 63, 64, 65, 255, 256, 1018, 1019, 1020))
+    yield b''.join(b'mark ' + word + b'\n' for byte in range(256)
+                   for word in (bytes([byte]), b'a' + bytes([byte]), bytes([byte]) + b'z', bytes([byte]) * 32, bytes([byte]) * 33))
+    edges = b'\x1f\x20\x21\x7e\x7f\x80'
+    yield b''.join(b'mark ' + b'~' * before + bytes([byte]) + b'!' * (31 - before) + b'\n' for before in range(32) for byte in edges)
+    words = ['mark', 'Mark', 'MARK', 'marks', 'mar', '#mark', '-', '?', 'expire', 'station', 'mark here', 'mark mark', 'mark mark mark', '',
+             ' ', '  ', 'here ', ' here', 'here there', 'here 0 expire', '0 expire', 'expire expire', 'x' * 32 + ' ', '\t', 'h\tre', 'here\r', '\r']
+    for end in '\n', '\r\n', '\r\r\n':
+        yield ''.join(f'{before}{word}{end}' for before in ('mark ', 'mark', '', ' mark ', '1 mark ', '1 0 mark ') for word in words).encode()
+    yield ''.join(f'mark {word}\n' for word in ('\xe9', '\u20ac', '\uff4d', '\U0001f4fb', 'caf\xe9', '\u0661', '\xa0')).encode()
+    yield b'mark ' + b'x' * 32
+    yield b'mark ' + b'x' * 32 + b'\r'
+    yield b'mark ' + b'x' * 10_000_000 + b'\nmark x\n'
+
+
+def cut_before_marks():
+    """Each form cut at each byte, and a mark after it; then a whole one."""
+    for form in [f'1 0 {command}' for command in COMMANDS] + QUERIES:
+        yield text(line for at in range(len(form) + 1) for line in (f'{form[:at]}mark first', 'mark second', 'last 1', 'count'))
 
 
 def bit_strings():
@@ -103,4 +126,4 @@ def broken_lines():
         yield bytes(data)
 
 
-KINDS = [odd_bytes, lengths, numbers, wrong_words, bit_strings, broken_lines, random_bytes]
+KINDS = [odd_bytes, lengths, numbers, wrong_words, marks, cut_before_marks, bit_strings, broken_lines, random_bytes]

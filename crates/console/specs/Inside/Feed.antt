@@ -3,7 +3,6 @@ use Rattle.std.specs.Prelude.{◌≡◌, ℕ, ◌+◌, ◌≤◌, ◌||◌, List
 use Rattle.std.specs.List.{list_any}
 use Rattle.std.specs.Str.Lines.{lines}
 use Rattle.identity.specs.Numbers.{Byte}
-use Rattle.registration.specs.Numbers.{Station}
 use Rattle.console.specs.declared.progress.Progress.{Progress}
 use Rattle.console.specs.declared.serving.Run.{Run}
 use Rattle.console.specs.declared.running.Ran.{Ran}
@@ -14,23 +13,27 @@ use Rattle.console.specs.declared.answer.Answer.{Answer}
 use Rattle.console.specs.Answer.{text, texts, is_trouble}
 use Rattle.desk.specs.Rules.{Rules}
 use Rattle.console.specs.Dialogue.{Dialogue}
-use Rattle.console.specs.Runs.{Start, Outcome, HasRun}
+use Rattle.console.specs.Reading.{Speaker}
+use Rattle.console.specs.Runs.{Start, Outcome, speaker_of}
+use Rattle.console.specs.Events.{Event}
+use Rattle.console.specs.Told.{IsTold}
+use Rattle.console.specs.Inside.Passing.{Follows, Passes, Sent, sent_by}
 use Rattle.console.specs.Inside.Current.{HasNoEnd, Holds, IsGivenFor}
 
--- where a run is: the station of its lines, how far it has come, the world of its desk, and the bytes that were written
+-- where a run is: the speaker of its lines, how far it has come, the world of its desk, and what was written
 pub record Reached (A W : Type 0) : Type 0 where
-  pub station : Station
+  pub speaker : Speaker
   pub progress : Progress A
   pub world : W
-  pub written : Option (List Byte)
+  pub written : Sent
 
 -- where this run is, by the world of its desk and the bytes of its writer
 abbrev pub reached_by : {A W G D World : Type 0} → (D → World) → (W → Option (List Byte)) → Run A W G D → Reached A World
 reached_by world contents run = record {
-  station = run.terms.now.station;
+  speaker = speaker_of run.terms.now;
   progress = run.progress.now;
   world = world run.desk.now;
-  written = contents run.output.now.writer.now;
+  written = sent_by contents run.output.now;
 }
 
 -- the run is the same one: it has the same terms, and borrows the same things
@@ -45,62 +48,67 @@ pub record IsSameRun {A W G D : Type 0} (old new : Run A W G D) : Type 0 where
 module _ {A W : Type 0} where
   -- the start of a run from here, whose reader has these bytes left
   abbrev pub start_at : Reached A W → Option (List Byte) → Start W
-  start_at reached unread = record { station = reached.station; world = reached.world; unread = unread; written = reached.written }
+  start_at reached unread = record { speaker = reached.speaker; world = reached.world; unread = unread; written = reached.written.bytes }
 
   -- the end of a run here, with this result
   abbrev pub outcome_at : Reached A W → Result Ran RunFault → Outcome W
-  outcome_at reached result = record { result = result; world = reached.world; written = reached.written }
+  outcome_at reached result = record { result = result; world = reached.world; written = reached.written.bytes }
 
--- a run that began at start has taken these bytes: some whole lines, which are answered, and a prefix of one more
-pub record IsGoing {A W : Type 0} (rules : Rules A W) (start : Start W) (before taken : List Byte) (now : Reached A W) : Type 0 where
+-- a run that began at start, when begun was written, has taken these bytes: some whole lines, which are answered, and a prefix of one more
+pub record IsGoing {A W : Type 0} (rules : Rules A W) (start : Start W) (begun : Sent) (taken : List Byte) (now : Reached A W) : Type 0 where
   pub done : List (List Byte)
   pub answers : List (Answer A)
   pub line : List Byte
-  pub station : now.station ≡ start.station
+  pub speaker : now.speaker ≡ start.speaker
   pub split : (rest : List Byte) → lines (taken ++ rest) ≡ done ++ lines (line ++ rest)
   pub no_end : HasNoEnd line
-  pub each : Dialogue rules start.station 0 start.world done answers now.world
-  pub written : now.written ≡ Some (before ++ texts answers)
+  pub each : Dialogue rules start.speaker 0 start.world done answers now.world
+  pub passed : Passes begun now.written [] (texts answers) []
   pub trouble : now.progress.troubled ≡ list_any is_trouble answers
   pub counted : now.progress.lines ≡ length done
   pub holds : Holds now.progress.current.bytes.items now.progress.current.long line
+
+-- The run has ended with this result. The writer is now here, and the desk at t: what passed since it began is what is told of this input
+abbrev pub HasEnded : {A W : Type 0} → Rules A W → Start W → Sent → List Byte → Sent → W → Result Ran RunFault → Type 0
+HasEnded {A = A} rules start begun input now t result =
+    (events : List Event) × Follows begun events now × IsTold A rules start.speaker start.world t input events result
 
 -- what a run does from where it was
 module _ {A W : Type 0} (rules : Rules A W) (old : Reached A W) where
   -- it has taken these bytes
   abbrev pub GoesOn : List Byte → Reached A W → Type 0
-  GoesOn bytes new = (start : Start W) (before taken : List Byte) → IsGoing rules start before taken old → IsGoing rules start before (taken ++ bytes) new
+  GoesOn bytes new = (start : Start W) (begun : Sent) (taken : List Byte) → IsGoing rules start begun taken old → IsGoing rules start begun (taken ++ bytes) new
 
   -- it has ended with this fault within these bytes, with any bytes after them
   abbrev pub StopsWithin : List Byte → RunFault → Reached A W → Type 0
-  StopsWithin bytes fault new = (start : Start W) (before taken rest : List Byte) → IsGoing rules start before taken old →
-      HasRun A rules start (outcome_at new (Err fault)) (taken ++ bytes ++ rest) before
+  StopsWithin bytes fault new = (start : Start W) (begun : Sent) (taken rest : List Byte) → IsGoing rules start begun taken old →
+      HasEnded rules start begun (taken ++ bytes ++ rest) new.written new.world (Err fault)
 
   -- the same two where nothing of the current line has come
   abbrev pub GoesOnAtLine : List Byte → Reached A W → Type 0
   GoesOnAtLine bytes new =
-      (start : Start W) (before taken : List Byte) (going : IsGoing rules start before taken old) → going.line ≡ [] → IsGoing rules start before (taken ++ bytes) new
+      (start : Start W) (begun : Sent) (taken : List Byte) (going : IsGoing rules start begun taken old) → going.line ≡ [] → IsGoing rules start begun (taken ++ bytes) new
 
   -- it has ended there
   abbrev pub StopsAtLine : List Byte → RunFault → Reached A W → Type 0
   StopsAtLine bytes fault new =
-      (start : Start W) (before taken rest : List Byte) (going : IsGoing rules start before taken old) → going.line ≡ [] →
-      HasRun A rules start (outcome_at new (Err fault)) (taken ++ bytes ++ rest) before
+      (start : Start W) (begun : Sent) (taken rest : List Byte) (going : IsGoing rules start begun taken old) → going.line ≡ [] →
+      HasEnded rules start begun (taken ++ bytes ++ rest) new.written new.world (Err fault)
 
   -- the same two within a piece of the text: it had been taken up to one place, and is now taken up to a later one
   abbrev pub GoesOnIn : List Byte → ℕ → ℕ → Reached A W → Type 0
   GoesOnIn piece at next new =
-      (start : Start W) (before taken : List Byte) → IsGoing rules start before (taken ++ take at piece) old → IsGoing rules start before (taken ++ take next piece) new
+      (start : Start W) (begun : Sent) (taken : List Byte) → IsGoing rules start begun (taken ++ take at piece) old → IsGoing rules start begun (taken ++ take next piece) new
 
   -- it has ended there
   abbrev pub StopsIn : List Byte → ℕ → RunFault → Reached A W → Type 0
   StopsIn piece at fault new =
-      (start : Start W) (before taken rest : List Byte) → IsGoing rules start before (taken ++ take at piece) old →
-      HasRun A rules start (outcome_at new (Err fault)) (taken ++ piece ++ rest) before
+      (start : Start W) (begun : Sent) (taken rest : List Byte) → IsGoing rules start begun (taken ++ take at piece) old →
+      HasEnded rules start begun (taken ++ piece ++ rest) new.written new.world (Err fault)
 
   -- the text ends, and so does the run
-  abbrev pub EndsSo : Outcome W → Type 0
-  EndsSo end = (start : Start W) (before taken : List Byte) → IsGoing rules start before taken old → HasRun A rules start end taken before
+  abbrev pub EndsSo : Reached A W → Result Ran RunFault → Type 0
+  EndsSo new result = (start : Start W) (begun : Sent) (taken : List Byte) → IsGoing rules start begun taken old → HasEnded rules start begun taken new.written new.world result
 
 module _ {A : Type 0} where
   -- the line is counted, with the trouble in its answer, and the next line begins
@@ -108,16 +116,13 @@ module _ {A : Type 0} where
   IsCounted old given new =
       (new.lines ≡ old.lines + 1) × (new.troubled ≡ (old.troubled || is_trouble given)) × Holds new.current.bytes.items new.current.long []
 
-  -- the answer that is given is written after what was written before, and is counted
-  abbrev pub Sends : Progress A → Option (List Byte) → Answer A → Progress A → Option (List ℕ) → Type 0
-  Sends old held answer new now = (before : List ℕ) → held ≡ Some before →
-      (given : Answer A) × IsGivenFor (old.lines + 1) answer given × (now ≡ Some (before ++ text given)) × IsCounted old given new
+  -- an answer is given and written, and is counted
+  abbrev pub Sends : Progress A → Sent → Answer A → Progress A → Sent → Type 0
+  Sends old held answer new now = (given : Answer A) × IsGivenFor (old.lines + 1) answer given × Passes held now [] (text given) [] × IsCounted old given new
 
-  -- only a prefix of its text is written; so many lines came before
-  abbrev pub SendsPrefix : ℕ → Option (List ℕ) → Answer A → Option (List Byte) → Type 0
-  SendsPrefix count held answer now = (before : List ℕ) → held ≡ Some before →
-      (given : Answer A) × (part : List ℕ) × (missing : List ℕ)
-      × IsGivenFor (count + 1) answer given × (text given ≡ part ++ missing) × (now ≡ Some (before ++ part))
+  -- some of its text is left; so many lines came before
+  abbrev pub SendsPart : ℕ → Sent → Answer A → Sent → Type 0
+  SendsPart count held answer now = (given : Answer A) × (left : List Byte) × IsGivenFor (count + 1) answer given × Passes held now [] (text given) left
 
 -- the result of a call of the reader fits a buffer of this size
 abbrev pub FitsPiece : Piece → ℕ → Type 0
@@ -128,3 +133,8 @@ FitsPiece (Bytes n) room = n ≤ room
 abbrev pub IsPiece : Piece → List Byte → List Byte → Option (List Byte) → Type 0
 IsPiece End buffer input left = (input ≡ []) × (left ≡ Some [])
 IsPiece (Bytes n) buffer input left = (rest : List Byte) × (left ≡ Some rest) × (input ≡ take n buffer ++ rest)
+
+-- the bytes that were read
+abbrev pub read_in : Piece → List Byte → List Byte
+read_in End buffer = []
+read_in (Bytes n) buffer = take n buffer

@@ -1,3 +1,4 @@
+use Rattle.console.proofs.OwnLines.{all_marks, all_own}
 use Rattle.console.proofs.Taken.{all_commands, all_queries, all_listings}
 use Rattle.console.proofs.laws.all_that_is_spelled.Goals as goal
 
@@ -9,3 +10,9 @@ returns-clause-queries g c = all_queries
 
 pub returns-clause-listings : goal.returns-clause-listings
 returns-clause-listings g c = all_listings
+
+pub returns-clause-marks : goal.returns-clause-marks
+returns-clause-marks g c = all_marks _
+
+pub returns-clause-station : goal.returns-clause-station
+returns-clause-station g c = all_own _

@@ -1,3 +1,4 @@
+use Rattle.console.proofs.OwnLines.{only_marks, only_own, nothing_forbidden}
 use Rattle.console.proofs.Spelled.{only_commands, only_queries, only_listings}
 use Rattle.console.proofs.laws.only_what_is_spelled.Goals as goal
 
@@ -9,3 +10,12 @@ returns-clause-queries g c = only_queries
 
 pub returns-clause-listings : goal.returns-clause-listings
 returns-clause-listings g c = only_listings
+
+pub returns-clause-marks : goal.returns-clause-marks
+returns-clause-marks g c = only_marks _
+
+pub returns-clause-station : goal.returns-clause-station
+returns-clause-station g c = only_own _
+
+pub returns-clause-forbidden : goal.returns-clause-forbidden
+returns-clause-forbidden g c = nothing_forbidden _

@@ -1,17 +1,37 @@
-use Rattle.std.proofs.Common.{rules, ap}
+use Rattle.std.proofs.Common.{[], Err, refl, rules, sym, ap}
+use Rattle.std.proofs.lemmas.List.{append-nil}
 use Rattle.console.specs.declared.running.RunFault.TheVariants.{NoMemory}
-use Rattle.console.specs.Runs.{Start}
+use Rattle.console.specs.Runs.{Start, speaker_of}
+use Rattle.console.specs.Told.{all_read, events_of}
+use Rattle.console.specs.Inside.Passing.{sent_by}
 use Rattle.console.proofs.Going.{short_at_once}
-use Rattle.console.proofs.Runs.{run_left}
+use Rattle.console.proofs.Runs.{run_left, told_left}
+use Rattle.console.proofs.Told.{has_run, nothing_passes, told_of}
 use Rattle.console.proofs.running.run_counted.Goals as goal
 
 pub returns-in_default-clause-answers : goal.returns-in_default-clause-answers
 returns-in_default-clause-answers g c = λ input before known held.
-    let start : Start g.D.Desk.World = record { station = c.args.terms.station; world = g.D.Desk.world c.args.desk.now; unread = g.R.Read.remaining c.args.input.now.reader.now; written = g.W.Write.contents c.args.output.now.writer.now } in
-    short_at_once g.D.Desk.rules start before input NoMemory _ held
+    let start : Start g.D.Desk.World = record { speaker = speaker_of c.args.terms; world = g.D.Desk.world c.args.desk.now; unread = g.R.Read.remaining c.args.input.now.reader.now; written = g.W.Write.contents c.args.output.now.writer.now } in
+    let begun = sent_by g.W.Write.contents c.args.output.now in
+    has_run g.D.Desk.rules start begun input before begun start.world (Err NoMemory) held
+    (short_at_once g.D.Desk.rules start begun input NoMemory begun (nothing_passes begun begun [] refl (λ bytes is. is)))
+
+pub returns-in_default-clause-told : goal.returns-in_default-clause-told
+returns-in_default-clause-told g c =
+    let start : Start g.D.Desk.World = record { speaker = speaker_of c.args.terms; world = g.D.Desk.world c.args.desk.now; unread = g.R.Read.remaining c.args.input.now.reader.now; written = g.W.Write.contents c.args.output.now.writer.now } in
+    let begun = sent_by g.W.Write.contents c.args.output.now in
+    let read = all_read c.args.input.now in
+    told_of g.D.Desk.rules start begun begun start.world (Err NoMemory) read [] read (sym (append-nil read))
+    (short_at_once g.D.Desk.rules start begun [] NoMemory begun (nothing_passes begun begun [] refl (λ bytes is. is)))
 
 pub returns-clause-answers : goal.returns-clause-answers
 returns-clause-answers g c =
-    run_left g.row.A.Denot g.D.Desk.rules c.args.terms.station (g.D.Desk.world c.args.desk.now) c.take_all.result
+    run_left g.row.A.Denot g.D.Desk.rules (speaker_of c.args.terms) (g.D.Desk.world c.args.desk.now) c.take_all.result
     (g.D.Desk.world c.take_all.new.self.desk.now) (g.W.Write.contents c.take_all.new.self.output.now.writer.now)
     (ap g.D.Desk.world (search rules)) (ap g.W.Write.contents (search rules)) c.take_all.ensures.answers
+
+pub returns-clause-told : goal.returns-clause-told
+returns-clause-told g c =
+    told_left g.row.A.Denot g.D.Desk.rules (speaker_of c.args.terms) (g.D.Desk.world c.args.desk.now) c.take_all.result
+    (all_read c.args.input.now) (all_read c.take_all.new.input) (events_of c.args.output.now) (g.D.Desk.world c.take_all.new.self.desk.now) (events_of c.take_all.new.self.output.now)
+    (ap g.D.Desk.world (search rules)) (search rules) c.take_all.ensures.told

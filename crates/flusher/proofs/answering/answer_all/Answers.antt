@@ -16,17 +16,18 @@ pub loop-command-init : goal.loop-command-init
 loop-command-init g c =
     let e = c.into_iter-outcomes.ensures.rest in (
       c.requires.stations,
-      subst (BearsOutDecisions g.J.Centre.base c.args.shown.now.published c.args.shown.now.all (commands_in c.args.batch.now.items)) (sym e) c.requires.borne_out,
+      subst (BearsOutDecisions g.J.Centre.base c.args.shown.now.stamp.published c.args.shown.now.all (commands_in c.args.batch.now.items)) (sym e) c.requires.borne_out,
       ap length e ∙ c.requires.each,
       subst AreShort (sym e) c.requires.short,
-      ([], ap (sent_by c.args.shown.now.published c.args.shown.now.all (commands_in c.args.batch.now.items)) e, none_answered _),
+      ([], ap (sent_by c.args.shown.now.stamp.moment.tick c.args.shown.now.stamp.published c.args.shown.now.all (commands_in c.args.batch.now.items)) e, none_answered _),
       refl,
     )
 
 pub loop-command-preserved : goal.loop-command-preserved
 loop-command-preserved g c =
     let i = c.loop-command.invariant in
-    let published = c.args.shown.now.published in
+    let published = c.args.shown.now.stamp.published in
+    let moment = c.args.shown.now.stamp.moment.tick in
     let all = c.args.shown.now.all in
     let cmd = arc_value c.in-Some.command in
     let o = c.in-Some-next.outcome in
@@ -39,15 +40,15 @@ loop-command-preserved g c =
     let same = i.2 in
     let le = ap length c.in-Some.ensures.items in
     let lf = ap length f in
-    let x = sent cmd published (decision_of all o) in (
+    let x = sent moment cmd published (decision_of all o) in (
       w.1,
       t.1,
       omega (arith, same, le, lf),
       (subst AreShort f i.3).1,
       (
         i.4.0 ++ x ∷ [],
-        append_assoc i.4.0 (x ∷ []) (sent_by published all cs os) ∙ (λ j. i.4.0 ++ sent_by published all (sym e j) (sym f j)) ∙ i.4.1,
-        answered_on _ _ _ _ _ i.4.2 (subst (λ s. HaveAnswered c.loop-command.senders.items (sent cmd published s ∷ []) c.answer_one.new.senders.items) c.decision_of-decision.ensures c.answer_one.ensures),
+        append_assoc i.4.0 (x ∷ []) (sent_by moment published all cs os) ∙ (λ j. i.4.0 ++ sent_by moment published all (sym e j) (sym f j)) ∙ i.4.1,
+        answered_on _ _ _ _ _ i.4.2 (subst (λ s. HaveAnswered c.loop-command.senders.items (sent moment cmd published s ∷ []) c.answer_one.new.senders.items) c.decision_of-decision.ensures c.answer_one.ensures),
       ),
       c.in-Some.ensures.capacity ∙ i.5,
     )

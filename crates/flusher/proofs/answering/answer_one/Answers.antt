@@ -1,6 +1,8 @@
-use Rattle.std.proofs.Common.{◌≡◌, ◌-◌, ◌+◌, ◌<◌, [], ◌∷◌, length, rules, subst, arith}
+use Rattle.std.proofs.Common.{◌≡◌, ◌-◌, ◌+◌, ◌<◌, ℕ, List, [], ◌∷◌, length, rules, subst, arith}
 use Rattle.std.specs.Prelude.{slice_set}
 use Rattle.std.specs.Arc.{arc_value}
+use Rattle.std.specs.declared.alloc.Global.{Global}
+use Rattle.centre_core.specs.Asked.{Asked}
 use Rattle.flusher.specs.Stages.{sent}
 use Rattle.flusher.specs.Answerings.{HaveAnswered}
 use Rattle.flusher.proofs.Answered.{one_answered}
@@ -16,5 +18,6 @@ returns g c =
     let le = c.requires.station.1 in
     let inside : i < length items = omega (arith, is, pos, le) in
     let mine : (arc_value c.args.command).station ≡ i + 1 = omega (arith, is, pos) in
-    subst (λ f. HaveAnswered items (sent (arc_value c.args.command) f c.args.decision ∷ []) (slice_set items i c.send.new.self)) c.copy.ensures
-    (one_answered items i c.index_mut.result.now c.send.new.self (sent (arc_value c.args.command) c.copy.result c.args.decision) (at_or items i c.index_mut.result.now inside (search rules)) mine c.send.ensures.same c.send.ensures.sent)
+    subst (λ (q : List (Asked Global) × ℕ). HaveAnswered items (sent q.1 (arc_value c.args.command) q.0 c.args.decision ∷ []) (slice_set items i c.send.new.self))
+    (λ j. (c.copy-published.ensures j, c.copy-moment.ensures j))
+    (one_answered items i c.index_mut.result.now c.send.new.self (sent c.copy-moment.result.tick (arc_value c.args.command) c.copy-published.result c.args.decision) (at_or items i c.index_mut.result.now inside (search rules)) mine c.send.ensures.same c.send.ensures.sent)

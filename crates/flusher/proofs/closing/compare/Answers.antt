@@ -1,4 +1,4 @@
-use Rattle.std.proofs.Common.{arith, sym, subst}
+use Rattle.std.proofs.Common.{arith, subst}
 use Rattle.std.proofs.lemmas.List.Elements.{All-more}
 use Rattle.flusher.specs.Closed.{HasSeenOf}
 use Rattle.flusher.specs.declared.session.Ended.{Ended}

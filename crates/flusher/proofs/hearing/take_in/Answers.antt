@@ -1,4 +1,4 @@
-use Rattle.std.proofs.Common.{◌≡◌, true≢false, length, sym, ◌∙◌, subst}
+use Rattle.std.proofs.Common.{◌≡◌, true≢false, sym, ◌∙◌, subst}
 use Rattle.std.specs.Arc.{arc_value}
 use Rattle.std.specs.Prelude.{IsTrue}
 use Rattle.flusher.specs.Submitted.{BearsOutAnswer, HasReached, HasShortAnswer, IsAlreadyReached}

@@ -1,4 +1,4 @@
-use Rattle.std.proofs.Common.{◌≡◌, ◌+◌, take, ◌∙◌, sym, subst}
+use Rattle.std.proofs.Common.{take, ◌∙◌, sym, subst}
 use Rattle.flusher.specs.Heard.{ArePut}
 use Rattle.flusher.proofs.Together.{put_more, take_one}
 use Rattle.flusher.proofs.putting.put_all.Goals as goal

@@ -1,11 +1,16 @@
-use Rattle.std.proofs.Common.{◌≡◌, ◌++◌, ◌≤◌, refl, ap, sym, ◌∙◌, subst, true≢false}
+use Rattle.std.proofs.Common.{◌≡◌, ℕ, List, ◌++◌, ◌≤◌, inl, refl, ap, sym, ◌∙◌, subst, true≢false}
+use Rattle.std.specs.declared.alloc.Global.{Global}
+use Rattle.centre_core.specs.Asked.{Asked}
 use Rattle.centre_core.specs.Histories.{IsHistory}
 use Rattle.centre_core.specs.History.{after}
 use Rattle.recovery.specs.Lives.{view_of as store_view}
 use Rattle.flusher.specs.Shared.{commands_in}
+use Rattle.flusher.specs.declared.decision.Decision.{Decision}
+use Rattle.flusher.specs.declared.moment.Moment.{Moment}
 use Rattle.flusher.specs.Stages.{sent_to_all}
 use Rattle.flusher.specs.Answerings.{HaveAnswered}
 use Rattle.flusher.specs.Batches.{accepted_by}
+use Rattle.flusher.specs.Attempts.{IsAtMostNext, tries}
 use Rattle.flusher.specs.Served.{HavePublished}
 use Rattle.flusher.proofs.Batched.{length-commands_in}
 use Rattle.flusher.proofs.Ready.{all_appended, answered_on, history_on, made_on, published_begins, refused_broken, refused_made}
@@ -33,7 +38,7 @@ publish_and_answer-requires-clause-answered g c =
     _ _ (ap (λ p. p.appended) c.keep.ensures.publisher ∙ sym (all_appended old.publisher.appended old.unpublished.items c.requires.all)) (c.keep.ensures.kept ∙ (λ j. accepted_by (c.args.room.now.same j) (c.as_slice.ensures.value j)))
 
 pub returns-in-Ok-clause-served : goal.returns-in-Ok-clause-served
-returns-in-Ok-clause-served g c seen =
+returns-in-Ok-clause-served g c seen was before =
     let base = g.J.Centre.base in
     let old = c.args.publication.now in
     let new = c.publish_and_answer.new.publication in
@@ -43,15 +48,16 @@ returns-in-Ok-clause-served g c seen =
     let same : c.keep.new.self.publisher.appended ≡ log = ap (λ p. p.appended) c.keep.ensures.publisher ∙ sym (all_appended old.publisher.appended old.unpublished.items c.requires.all) in
     let is : new.publisher.appended ++ commands_in new.unpublished.items ≡ log ++ accepted_by cmds os = c.publish_and_answer.ensures.durable ∙ (λ j. same j ++ (c.keep.ensures.kept ∙ (λ j. accepted_by (c.args.room.now.same j) (c.as_slice.ensures.value j))) j) in
     let small = subst (λ n. n ≤ 64) (sym (length-commands_in c.args.room.now.batch.items)) c.args.room.now.few in
-    served_on base (store_view c.args.committer.now.store) (store_view c.commit_batch.new.committer.store) c.args.committer.now.attempts c.commit_batch.new.committer.attempts seen log
+    served_on base (g.D.Disk.view c.commit_batch.new.committer.store.disk).moment (store_view c.args.committer.now.store) (store_view c.commit_batch.new.committer.store) (tries c.args.committer.now.attempts was) (tries c.commit_batch.new.committer.attempts new.attempts) seen log
     (new.publisher.appended ++ commands_in new.unpublished.items) new.publisher.published cmds os c.args.senders.now.items c.publish_and_answer.new.senders.items c.requires.history c.requires.made c.requires.sound small c.in-Ok.ensures.committed.0 c.in-Ok.ensures.committed.1 is
-    (subst (λ l. HavePublished l (new.publisher.appended ++ commands_in new.unpublished.items) new.publisher.published cmds os c.args.senders.now.items c.publish_and_answer.new.senders.items) same c.publish_and_answer.ensures.published)
+    (subst (λ (q : ℕ × List (Asked Global)). HavePublished q.0 was new.attempts q.1 (new.publisher.appended ++ commands_in new.unpublished.items) new.publisher.published cmds os c.args.senders.now.items c.publish_and_answer.new.senders.items)
+    (λ j. (c.moment-moment.ensures j, same j)) (c.publish_and_answer.ensures.published was (subst (λ a. IsAtMostNext was a) (sym c.keep.ensures.attempts) before)))
 
 pub returns-in-Ok-clause-prefix : goal.returns-in-Ok-clause-prefix
 returns-in-Ok-clause-prefix g c =
     let new = c.publish_and_answer.new.publication in
-    published_begins c.keep.new.self.publisher.appended (new.publisher.appended ++ commands_in new.unpublished.items) new.publisher.published (commands_in c.args.room.now.batch.items) (commands_in c.keep.new.self.unpublished.items) c.in-Ok.outcomes.items
-    c.args.senders.now.items c.publish_and_answer.new.senders.items c.publish_and_answer.ensures.durable c.publish_and_answer.ensures.published
+    published_begins c.moment-moment.result.tick c.keep.new.self.attempts new.attempts c.keep.new.self.publisher.appended (new.publisher.appended ++ commands_in new.unpublished.items) new.publisher.published (commands_in c.args.room.now.batch.items) (commands_in c.keep.new.self.unpublished.items) c.in-Ok.outcomes.items
+    c.args.senders.now.items c.publish_and_answer.new.senders.items c.publish_and_answer.ensures.durable (c.publish_and_answer.ensures.published c.keep.new.self.attempts (inl refl))
 
 pub returns-in-Ok-clause-history : goal.returns-in-Ok-clause-history
 returns-in-Ok-clause-history g c =
@@ -77,15 +83,16 @@ pub returns-in-Ok-clause-under_way : goal.returns-in-Ok-clause-under_way
 returns-in-Ok-clause-under_way g c down = absurd (true≢false (sym down ∙ c.in-Ok.ensures.committed.0.sound))
 
 pub returns-in-Err-clause-served : goal.returns-in-Err-clause-served
-returns-in-Err-clause-served g c seen =
+returns-in-Err-clause-served g c seen was before =
     let base = g.J.Centre.base in
     let old = c.args.publication.now in
     let log = old.publisher.appended ++ commands_in old.unpublished.items in
     let cmds = commands_in c.args.room.now.batch.items in
     let small = subst (λ n. n ≤ 64) (sym (length-commands_in c.args.room.now.batch.items)) c.args.room.now.few in
-    served_not base (store_view c.args.committer.now.store) (store_view c.commit_batch.new.committer.store) c.args.committer.now.attempts c.commit_batch.new.committer.attempts seen log log old.publisher.published cmds
+    served_not base (g.D.Disk.view c.commit_batch.new.committer.store.disk).moment (store_view c.args.committer.now.store) (store_view c.commit_batch.new.committer.store) (tries c.args.committer.now.attempts was) (tries c.commit_batch.new.committer.attempts old.attempts) seen log log old.publisher.published cmds
     c.in-Err.fault c.args.senders.now.items c.refuse.new.senders.items c.requires.sound small c.in-Err.ensures.committed (c.requires.level ∙ sym (all_appended old.publisher.appended old.unpublished.items c.requires.all)) refl
-    (subst (λ d. HaveAnswered c.args.senders.now.items (sent_to_all old.publisher.published d cmds) c.refuse.new.senders.items) c.reason_of.ensures c.refuse.ensures.answered)
+    (subst (λ (q : ℕ × List (Asked Global) × Decision). HaveAnswered c.args.senders.now.items (sent_to_all q.0 q.1 q.2 cmds) c.refuse.new.senders.items)
+    (λ j. ((ap (λ (m : Moment). m.tick) c.stamp-stamp.ensures.1 ∙ c.moment.ensures) j, c.stamp-stamp.ensures.0 j, c.reason_of.ensures j)) c.refuse.ensures.answered)
 
 pub returns-in-Err-clause-prefix : goal.returns-in-Err-clause-prefix
 returns-in-Err-clause-prefix g c =

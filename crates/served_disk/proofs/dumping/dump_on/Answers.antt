@@ -17,3 +17,8 @@ pub returns-in-Err-dumped-clause-refused : goal.returns-in-Err-dumped-clause-ref
 returns-in-Err-dumped-clause-refused g c honest =
     let s = c.in-Ok.store in
     (s.register, record { opening = opening s.layout s.side s.epoch s.journal.next s.register; opens = c.in-Ok.ensures.opened honest; same = refl })
+
+pub returns-in-Err-clause-refused : goal.returns-in-Err-clause-refused
+returns-in-Err-clause-refused g c =
+    let why = c.in-Err.ensures in
+    record { kind = why.kinds; there = why.refused; device = why.fault; memory = why.memory }

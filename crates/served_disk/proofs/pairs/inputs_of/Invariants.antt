@@ -1,6 +1,8 @@
-use Rattle.std.proofs.Common.{◌≡◌, length}
-use Rattle.std.specs.Prelude.{◌≤◌, vec_capacity}
+use Rattle.std.proofs.Common.{◌≡◌, take}
+use Rattle.settings.specs.Naming.{texts}
+use Rattle.served_disk.specs.Files.{inputs_in}
 use Rattle.served_disk.proofs.pairs.inputs_of.Given as goal
 
-abbrev pub invariant-loop-input : goal.invariant-loop-input
-invariant-loop-input l = (length l.inputs.items ≡ l.input-index) × (length l.named ≤ vec_capacity l.inputs)
+-- the names so far
+abbrev pub invariant-loop-index : goal.invariant-loop-index
+invariant-loop-index l = texts l.inputs.items ≡ inputs_in (take l.index l.named)

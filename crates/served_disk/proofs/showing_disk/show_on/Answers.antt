@@ -1,8 +1,9 @@
-use Rattle.std.proofs.Common.{refl}
+use Rattle.std.proofs.Common.{rules, inl, inr, refl}
 use Rattle.recovery.specs.Figures.{figures_at}
 use Rattle.recovery.specs.Lives.{view_of}
 use Rattle.recovery.specs.Opens.{opening}
 use Rattle.served_disk.proofs.AtOpening.{opened_figures}
+use Rattle.served_disk.proofs.Reasons.{is_there, passed, unlike}
 use Rattle.served_disk.proofs.showing_disk.show_on.Goals as goal
 
 pub returns-in-Ok-clause-shown : goal.returns-in-Ok-clause-shown
@@ -20,3 +21,21 @@ returns-in-Ok-clause-shown g c =
       };
       shown = c.in-Ok.ensures;
     }
+
+pub returns-in-Err-clause-refused : goal.returns-in-Err-clause-refused
+returns-in-Err-clause-refused g c = record {
+  kind = tt;
+  there = λ honest. tt;
+  device = λ same. absurd (unlike same);
+  memory = λ same honest. inr (is_there _ _ (c.in_ok-store.ensures.opened honest));
+}
+
+pub returns-in_err-store-clause-refused : goal.returns-in_err-store-clause-refused
+returns-in_err-store-clause-refused g c =
+    let why = c.in_err-store.ensures in
+    passed _ c.from_residual.result c.in_err-store.field-0.0 (search rules) (record {
+      kind = why.kinds;
+      there = why.refused;
+      device = why.fault;
+      memory = λ same honest. inl (why.memory same honest);
+    })

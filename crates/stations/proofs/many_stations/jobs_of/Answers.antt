@@ -1,9 +1,11 @@
-use Rattle.std.proofs.Common.{◌≡◌, ◌+◌, List, [], ◌∷◌, ◌++◌, length, refl, ap, sym, ◌∙◌, subst, rules, arith, append_assoc, length-append}
-use Rattle.std.specs.Prelude.{map}
+use Rattle.std.proofs.Common.{◌≡◌, List, [], ◌∷◌, ◌++◌, length, refl, ap, sym, ◌∙◌, subst, rules, arith, append_assoc, length-append}
+use Rattle.std.specs.Prelude.{All, map}
 use Rattle.std.proofs.lemmas.List.{append-nil, map-append}
+use Rattle.std.proofs.lemmas.List.Elements.{All-nil, All-push}
 use Rattle.flusher.specs.declared.session.Session.{Session}
 use Rattle.stations.specs.declared.job.Job.{Job}
 use Rattle.stations.specs.declared.port.Port.{Port}
+use Rattle.stations.specs.Orders.{may}
 use Rattle.stations.proofs.Places.{map_length}
 use Rattle.stations.proofs.Zipped.{fewer, nothing, whole}
 use Rattle.stations.proofs.many_stations.jobs_of.Goals as goal
@@ -19,6 +21,7 @@ loop-session-init g c =
       ports = rw none ports;
       ports_rest = search rules;
       sessions = rw none refl;
+      orders = rw none (All-nil (λ (j : Job g.row.J.Denot g.row.I.Denot g.row.O.Denot). j.orders ≡ may c.args.orders j.session.sender.station));
       room = (let r = c.requires.room in let n = c.args.sessions.ok.0 in omega arith);
     }
 
@@ -56,15 +59,19 @@ loop-session-preserved g c =
     let split = subst (λ (l : List (Session g.row.J.Denot)). done ++ l ≡ c.args.sessions.items) step i.in_turn in
     let more = c.push_reserved.ensures.items in
     let of_session : Job g.row.J.Denot g.row.I.Denot g.row.O.Denot → Session g.row.J.Denot = λ j. j.session in
+    let May : Job g.row.J.Denot g.row.I.Denot g.row.O.Denot → Type 0 = λ j. j.orders ≡ may c.args.orders j.session.sender.station in
+    let new : Job g.row.J.Denot g.row.I.Denot g.row.O.Denot = record { session = session; orders = c.may-may_order.result; port = port } in
+    let may_new : May new = search rules in
     let of_port : Job g.row.J.Denot g.row.I.Denot g.row.O.Denot → Port g.row.I.Denot g.row.O.Denot = λ j. j.port in
     record {
       in_turn = append_assoc done (session ∷ []) rest ∙ split;
       rest = search rules;
       ports = ap (λ (l : List (Job g.row.J.Denot g.row.I.Denot g.row.O.Denot)). map of_port l ++ c.next-in-loop-session.new.self.rest.items) more
-          ∙ ap (λ l. l ++ c.next-in-loop-session.new.self.rest.items) (map-append of_port jobs (record { session = session; port = port } ∷ []))
+          ∙ ap (λ l. l ++ c.next-in-loop-session.new.self.rest.items) (map-append of_port jobs (new ∷ []))
           ∙ append_assoc (map of_port jobs) (port ∷ []) c.next-in-loop-session.new.self.rest.items ∙ ap (λ l. map of_port jobs ++ l) (sym next) ∙ i.ports;
       ports_rest = (let old = i.ports_rest in let long = ap length next in let less = c.in-Some-next.ensures.len in omega arith);
-      sessions = ap (λ (l : List (Job g.row.J.Denot g.row.I.Denot g.row.O.Denot)). map of_session l) more ∙ map-append of_session jobs (record { session = session; port = port } ∷ []) ∙ ap (λ l. l ++ session ∷ []) i.sessions;
+      sessions = ap (λ (l : List (Job g.row.J.Denot g.row.I.Denot g.row.O.Denot)). map of_session l) more ∙ map-append of_session jobs (new ∷ []) ∙ ap (λ l. l ++ session ∷ []) i.sessions;
+      orders = subst (All May) (sym more) (All-push May jobs new i.orders may_new);
       room = omega (arith, c.push_reserved.ensures.capacity, i.room);
     }
 
@@ -80,5 +87,6 @@ returns g c =
     record {
       sessions = i.sessions ∙ all;
       ports = sym (append-nil (map (λ (j : Job g.row.J.Denot g.row.I.Denot g.row.O.Denot). j.port) c.loop-session.jobs.items)) ∙ ap (λ l. map (λ (j : Job g.row.J.Denot g.row.I.Denot g.row.O.Denot). j.port) c.loop-session.jobs.items ++ l) (sym none) ∙ i.ports;
+      orders = i.orders;
       count = omega (arith, count, c.loop-session.jobs.ok.0, c.args.sessions.ok.0);
     }

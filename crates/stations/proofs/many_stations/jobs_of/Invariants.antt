@@ -1,5 +1,6 @@
 use Rattle.std.proofs.Common.{◌≡◌, ◌≤◌, ◌++◌, length}
-use Rattle.std.specs.Prelude.{map, vec_capacity}
+use Rattle.std.specs.Prelude.{All, map, vec_capacity}
+use Rattle.stations.specs.Orders.{may}
 use Rattle.stations.proofs.many_stations.jobs_of.Given as goal
 
 abbrev pub invariant-loop-session : goal.invariant-loop-session
@@ -9,5 +10,6 @@ invariant-loop-session g l = record {
   ports : map (λ job. job.port) l.jobs.items ++ l.ports.rest.items ≡ l.fn.ports.items;
   ports_rest : length l.ports.rest.items ≡ l.ports.rest.len;
   sessions : map (λ job. job.session) l.jobs.items ≡ l.yielded;
+  orders : All (λ job. job.orders ≡ may l.fn.orders job.session.sender.station) l.jobs.items;
   room : length l.fn.sessions.items ≤ vec_capacity l.jobs;
 }

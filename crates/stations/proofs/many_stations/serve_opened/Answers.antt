@@ -40,7 +40,7 @@ store_of-store-requires-clause-sessions g c =
     let same = subst (λ f. HasSameEnds first (view_of f)) (sym c.into_flusher.ensures) c.serve_all-held.ensures.flushed.same in
     subst (λ (l : List (Ended g.row.J.Denot)). AreSessionsOf last l) (sym c.split_done-ended.ensures.ended)
     (sessions_ended g.J.Centre.base g.I.Read.remaining g.O.Write.contents first last c.args.opened.1.items c.args.ports.items c.jobs_of-jobs.result.items
-    c.serve_all-held.result.1.items c.jobs_of-jobs.ensures.sessions c.jobs_of-jobs.ensures.ports c.requires.sessions c.serve_all-held.ensures.done same)
+    c.serve_all-held.result.1.items c.jobs_of-jobs.ensures.sessions c.jobs_of-jobs.ensures.ports c.requires.sessions c.serve_all-held.ensures.done c.args.orders c.jobs_of-jobs.ensures.orders same)
 
 pub returns : goal.returns
 returns g c =
@@ -48,6 +48,7 @@ returns g c =
     let last = view_of c.into_flusher.result in
     has_served g.J.Centre.base g.I.Read.remaining g.O.Write.contents first last c.args.opened.1.items c.args.ports.items c.jobs_of-jobs.result.items
     c.serve_all-held.result.1.items c.jobs_of-jobs.ensures.sessions c.jobs_of-jobs.ensures.ports c.requires.sessions c.serve_all-held.ensures.done
+    c.args.orders c.jobs_of-jobs.ensures.orders
     g.D.Disk.view first.store (store_view c.store_of-store.result) (length c.args.ports.items) c.requires.sound refl (subst (λ n. IsNewFlusher n first.store first) c.args.ports.ok.0 c.requires.flusher)
     (subst (λ f. HasFlushed g.D.Disk.view g.J.Centre.base first (view_of f)) (sym c.into_flusher.ensures) c.serve_all-held.ensures.flushed)
     c.store_of-store.ensures.store c.split_done-ended.result.0.items c.split_done-ended.result.1.items c.split_done-ended.ensures.ended c.split_done-ended.ensures.runs c.store_of-store.ensures.closed

@@ -1,11 +1,23 @@
-use Rattle.std.proofs.Common.{sym}
+use Rattle.std.proofs.Common.{Bool, subst, sym}
+use Rattle.std.specs.declared.alloc.Global.{Global}
+use Rattle.console.specs.Runs.{IsRun}
+use Rattle.stations.specs.OfSession.{at_session, of_session}
 use Rattle.stations.proofs.OneRun.{run_by}
 use Rattle.stations.proofs.one_station.run_begun.Goals as goal
 
 pub returns-clause-answers : goal.returns-clause-answers
 returns-clause-answers g c =
-    run_by g.row.J.Denot g.J.Centre.base
+    run_by g.row.J.Denot g.J.Centre.base c.args.serving.now.orders
     (g.I.Read.remaining c.args.input.now.reader.now) (g.O.Write.contents c.args.output.now.writer.now) (g.O.Write.contents c.run_counted-ran.new.output.writer.now)
     c.run_counted-ran.result c.station.result
     c.new-desk.result c.args.session c.run_counted-ran.new.desk c.into_session.result
-    c.station.ensures c.new-desk.ensures (sym c.into_session.ensures.same) c.run_counted-ran.ensures.answers
+    c.station.ensures c.new-desk.ensures (sym c.into_session.ensures.same)
+    (subst (λ (o : Bool). IsRun Global (of_session g.row.J.Denot g.J.Centre.base o)
+    (record {
+      speaker = record { station = c.station.result; orders = c.args.serving.now.orders };
+      world = at_session c.new-desk.result;
+      unread = g.I.Read.remaining c.args.input.now.reader.now;
+      written = g.O.Write.contents c.args.output.now.writer.now;
+    })
+    (record { result = c.run_counted-ran.result; world = at_session c.run_counted-ran.new.desk; written = g.O.Write.contents c.run_counted-ran.new.output.writer.now }))
+    (sym c.requires.orders) c.run_counted-ran.ensures.answers)

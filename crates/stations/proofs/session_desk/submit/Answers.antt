@@ -1,16 +1,19 @@
-use Rattle.std.proofs.Common.{rules, ◌≡◌, ◌∙◌, inl, subst}
+use Rattle.std.proofs.Common.{rules, ◌≡◌, ◌∙◌, true, inl, subst}
 use Rattle.centre_core.proofs.SameLaws.{under_own}
 use Rattle.flusher.specs.Sessions.{view_of}
 use Rattle.flusher.specs.Submitted.{IsSubmission}
+use Rattle.stations.specs.Orders.{is_allowed}
 use Rattle.stations.proofs.session_desk.submit.Goals as goal
 
 pub returns-in-Ok-clause-applies : goal.returns-in-Ok-clause-applies
 returns-in-Ok-clause-applies g c =
     let own : c.in-Ok.own ≡ c.args.command.now = c.in-Ok.ensures.ok ∙ under_own c.args.command.now in
-    let same : c.args.command.now.station ≡ c.args.session.now.sender.station = search rules in (
+    let same : c.args.command.now.station ≡ c.args.session.now.sender.station = search rules in
+    let allowed : is_allowed c.args.means.now.orders c.args.command.now ≡ true = search rules in (
       c.submit.ensures.same.1,
       inl (
         same,
+        allowed,
         record {
           answer = c.submit.result;
           result_is = c.result_of.ensures;

@@ -1,5 +1,5 @@
-use Rattle.std.proofs.Common.{◌≡◌, List, length, sym, subst, arith}
-use Rattle.std.specs.Prelude.{All, Result, map}
+use Rattle.std.proofs.Common.{◌≡◌, true, List, sym, subst, arith}
+use Rattle.std.specs.Prelude.{All, Result}
 use Rattle.std.specs.declared.alloc.Global.{Global}
 use Rattle.registration.specs.Numbers.{Station}
 use Rattle.centre_core.specs.Asked.{Asked}
@@ -7,7 +7,8 @@ use Rattle.centre_core.specs.declared.reply.Reply.{Reply}
 use Rattle.desk.specs.declared.outage.Outage.{Outage}
 use Rattle.desk.specs.Rules.{AreApplied}
 use Rattle.flusher.specs.Sessions.{view_of}
-use Rattle.stations.specs.OfSession.{at_session, of_session, result_of}
+use Rattle.stations.specs.OfSession.{at_session, of_session}
+use Rattle.stations.specs.Orders.{is_allowed}
 use Rattle.stations.proofs.Submissions.{applied_together, as_many}
 use Rattle.stations.proofs.session_desk.submit_all.Goals as goal
 
@@ -17,10 +18,10 @@ returns-clause-applies g c =
     let J = g.row.J.Denot in
     let old = c.args.session.now in
     let new = c.submit_all.new.self in
-    let of = subst (λ n. All (λ (command : Asked Global). command.station ≡ n) c.args.commands.now) c.station.ensures c.in-Some.ensures.station in
+    let of = subst (λ n. All (λ (command : Asked Global). (command.station ≡ n) × (is_allowed c.args.means.now.orders command ≡ true)) c.args.commands.now) c.station.ensures c.in-Some.ensures.station in
     let same : old.sender.station ≡ new.sender.station = sym c.submit_all.ensures.same.1 in
-    let done = applied_together J base old.sender.station c.args.commands.now (view_of old) (view_of new) c.submit_all.new.answers.items of c.submit_all.ensures.submitted in
-    subst (λ (q : Station × List (Result (Reply Global) Outage)). AreApplied (of_session J base) (at_session old) c.args.commands.now q.1 (record { station = q.0; view = view_of new })) (λ i. (same i, sym c.put_results.ensures.added i)) done
+    let done = applied_together J base c.args.means.now.orders old.sender.station c.args.commands.now (view_of old) (view_of new) c.submit_all.new.answers.items of c.submit_all.ensures.submitted in
+    subst (λ (q : Station × List (Result (Reply Global) Outage)). AreApplied (of_session J base c.args.means.now.orders) (at_session old) c.args.commands.now q.1 (record { station = q.0; view = view_of new })) (λ i. (same i, sym c.put_results.ensures.added i)) done
 
 pub put_results-requires-clause-room : goal.put_results-requires-clause-room
 put_results-requires-clause-room g c =

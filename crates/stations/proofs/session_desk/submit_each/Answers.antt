@@ -1,4 +1,4 @@
-use Rattle.std.proofs.Common.{◌≡◌, ◌+◌, ◌++◌, [], ◌∷◌, List, length, take, ◌∙◌, ap, sym, subst, arith}
+use Rattle.std.proofs.Common.{List, take, ◌∙◌, sym, subst, arith}
 use Rattle.std.specs.Prelude.{All, IfOk, Result}
 use Rattle.std.proofs.lemmas.List.Elements.{All-push}
 use Rattle.std.specs.declared.alloc.Global.{Global}
@@ -14,7 +14,7 @@ use Rattle.stations.proofs.session_desk.submit_each.Goals as goal
 
 pub loop-k-preserved : goal.loop-k-preserved
 loop-k-preserved g c =
-    let rules = of_session g.row.J.Denot g.J.Centre.base in
+    let rules = of_session g.row.J.Denot g.J.Centre.base c.args.means.now.orders in
     let i = c.loop-k.invariant in
     let k = c.loop-k.k in
     let command = c.index-commands-k.result in

@@ -1,4 +1,4 @@
-use Rattle.std.proofs.Common.{◌≡◌, length, take}
+use Rattle.std.proofs.Common.{◌≡◌, take}
 use Rattle.std.specs.Prelude.{All, IfOk, vec_capacity, vec_len}
 use mathlib.Core.List.{IsPrefix}
 use Rattle.desk.specs.Replies.{HasShortPdu}
@@ -9,7 +9,7 @@ use Rattle.stations.proofs.session_desk.submit_each.Given as goal
 
 abbrev pub invariant-loop-k : goal.invariant-loop-k
 invariant-loop-k g l = record {
-  applied : AreApplied (of_session g.row.J.Denot g.J.Centre.base) (at_session l.initial.session) (take l.k l.commands) l.replies.items (at_session l.session);
+  applied : AreApplied (of_session g.row.J.Denot g.J.Centre.base l.means.orders) (at_session l.initial.session) (take l.k l.commands) l.replies.items (at_session l.session);
   count : vec_len l.replies ≡ l.k;
   short : All (λ reply. IfOk reply HasShortPdu) l.replies.items;
   room : vec_capacity l.replies ≡ vec_capacity l.initial.replies;

@@ -22,5 +22,6 @@ returns g c =
         received = ap (λ (r : AnswerReceiver Sent). received_of r.pass) end.same.0;
         channel = ap (λ (r : AnswerReceiver Sent). receives_on r.channel) end.same.0 ∙ ran.ensures.same.2;
         seen = end.same.1;
+        submits = ran.ensures.submits;
       },
     )

@@ -1,37 +1,61 @@
-use Rattle.std.proofs.Common.{◌++◌, [], Some, take, drop, sym, ap, ◌∙◌, arith}
+use Rattle.std.proofs.Common.{◌+◌, ◌-◌, [], length, take, drop, refl, ◌∙◌, arith}
 use Rattle.std.proofs.lemmas.Grind.{common_steps}
-use Rattle.std.proofs.lemmas.List.{take-append-drop, append-nil}
 use Rattle.mailbox.proofs.Results.{known_err, known_ok}
-use Rattle.console.proofs.Writing.{written_all, resume}
+use Rattle.console.specs.Inside.Passing.{sent_by}
+use Rattle.console.proofs.Told.{nothing_passes, passes_by, passes_on, write_passes}
+use Rattle.console.proofs.Writing.{left_of, left_later, none_left}
 use Rattle.console.proofs.output.Output.send.Goals as goal
 
-pub returns-in_err-at-clause-err : goal.returns-in_err-at-clause-err
-returns-in_err-at-clause-err g c = known_err c.from_residual.result (λ before known. (
-  take c.loop-at.at c.args.bytes.now,
-  drop c.loop-at.at c.args.bytes.now,
-  sym (take-append-drop c.loop-at.at c.args.bytes.now),
-  c.in_err-at.ensures.err (before ++ take c.loop-at.at c.args.bytes.now) (c.loop-at.invariant.4 before known),
-))
-
-pub loop-at-preserved : goal.loop-at-preserved
-loop-at-preserved g c = (
-  grind (arith, common_steps, c.in_ok-at.ensures.bound),
-  c.write.ensures.writer ∙ c.loop-at.invariant.1,
-  c.write.ensures.failures ∙ c.loop-at.invariant.2,
-  omega (arith, c.in_ok-at.ensures.ledger, c.loop-at.invariant.3),
-  λ before known.
-      c.in_ok-at.ensures.ok (before ++ take c.loop-at.at c.args.bytes.now) (c.loop-at.invariant.4 before known)
-      ∙ ap Some (resume before c.args.bytes.now c.loop-at.at c.in_ok-at.field-0 c.loop-at.invariant.0),
+pub loop-at-init : goal.loop-at-init
+loop-at-init g c = (
+  omega arith,
+  refl,
+  refl,
+  refl,
+  nothing_passes (sent_by g.W.Write.contents c.args.self.now) _ c.args.bytes.now refl (λ held known. known),
 )
 
+pub returns-in_err-at-clause-err : goal.returns-in_err-at-clause-err
+returns-in_err-at-clause-err g c =
+    let contents = g.W.Write.contents in
+    let left = drop c.loop-at.at c.args.bytes.now in
+    known_err c.from_residual.result (
+      left,
+      passes_on (sent_by contents c.args.self.now) (sent_by contents c.loop-at.self) (sent_by contents c.write.new.self) c.args.bytes.now [] left [] left c.loop-at.invariant.4
+          (nothing_passes _ _ left c.in_err-at.ensures.silent c.in_err-at.ensures.err),
+    )
+
+pub loop-at-preserved : goal.loop-at-preserved
+loop-at-preserved g c =
+    let contents = g.W.Write.contents in
+    let bytes = c.args.bytes.now in
+    let at = c.loop-at.at in
+    let n = c.in_ok-at.field-0 in
+    let waits = take (length bytes - at) (drop at bytes) in (
+      grind (arith, common_steps, c.in_ok-at.ensures.bound),
+      c.write.ensures.writer ∙ c.loop-at.invariant.1,
+      c.write.ensures.failures ∙ c.loop-at.invariant.2,
+      omega (arith, c.in_ok-at.ensures.ledger, c.loop-at.invariant.3),
+      passes_on (sent_by contents c.args.self.now) (sent_by contents c.loop-at.self) (sent_by contents c.write.new.self) bytes [] (drop at bytes) [] (drop (at + n) bytes) c.loop-at.invariant.4
+          (passes_by _ _ waits [] (drop n waits) (drop at bytes) [] (drop (at + n) bytes) (left_of bytes at) refl (left_later bytes at n)
+          (write_passes _ _ waits n c.in_ok-at.ensures.events c.in_ok-at.ensures.ok)),
+    )
+
 pub returns-clause-ok : goal.returns-clause-ok
-returns-clause-ok g c = known_ok c.flush.result (λ before known.
-    c.flush.ensures.keeps (before ++ c.args.bytes.now) (c.loop-at.invariant.4 before known ∙ ap (λ bs. Some (before ++ bs)) (written_all c.args.bytes.now c.loop-at.at (omega (arith, c.loop-at.invariant.0, c.loop-at-test.false)))))
+returns-clause-ok g c =
+    let contents = g.W.Write.contents in
+    let bytes = c.args.bytes.now in
+    let left = drop c.loop-at.at bytes in
+    known_ok c.flush.result (passes_by _ _ bytes [] left bytes [] [] refl refl (none_left bytes c.loop-at.at (omega (arith, c.loop-at.invariant.0, c.loop-at-test.false)))
+    (passes_on (sent_by contents c.args.self.now) (sent_by contents c.loop-at.self) (sent_by contents c.flush.new.self) bytes [] left [] left c.loop-at.invariant.4
+    (nothing_passes _ _ left c.flush.ensures.silent c.flush.ensures.keeps)))
 
 pub returns-clause-err : goal.returns-clause-err
-returns-clause-err g c = known_err c.flush.result (λ before known. (
-  c.args.bytes.now,
-  [],
-  sym (append-nil c.args.bytes.now),
-  c.flush.ensures.keeps (before ++ c.args.bytes.now) (c.loop-at.invariant.4 before known ∙ ap (λ bs. Some (before ++ bs)) (written_all c.args.bytes.now c.loop-at.at (omega (arith, c.loop-at.invariant.0, c.loop-at-test.false)))),
-))
+returns-clause-err g c =
+    let contents = g.W.Write.contents in
+    let left = drop c.loop-at.at c.args.bytes.now in
+    known_err c.flush.result (
+      left,
+      passes_on (sent_by contents c.args.self.now) (sent_by contents c.loop-at.self) (sent_by contents c.flush.new.self) c.args.bytes.now [] left [] left c.loop-at.invariant.4
+          (nothing_passes _ _ left c.flush.ensures.silent c.flush.ensures.keeps),
+    )

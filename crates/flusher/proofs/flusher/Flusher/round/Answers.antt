@@ -1,11 +1,15 @@
-use Rattle.std.proofs.Common.{◌++◌, [], true≢false, List, length, refl, ap, sym, ◌∙◌, subst}
+use Rattle.std.proofs.Common.{◌++◌, ℕ, [], inl, true≢false, List, length, refl, ap, sym, ◌∙◌, subst}
 use Rattle.std.specs.declared.alloc.Global.{Global}
 use mathlib.Core.List.{IsPrefix}
 use Rattle.centre_core.specs.Asked.{Asked}
 use Rattle.centre_core.specs.History.{after}
 use Rattle.centre_core.specs.Histories.{IsHistory}
 use Rattle.recovery.specs.Lives.{view_of as store_view}
+use Rattle.flusher.specs.declared.moment.Moment.{Moment}
+use Rattle.flusher.specs.Attempts.{tries}
 use Rattle.flusher.specs.Shared.{commands_among, commands_in}
+use Rattle.flusher.specs.Stages.{decision_for_all, sent_to_all}
+use Rattle.flusher.specs.Answerings.{HaveAnswered}
 use Rattle.flusher.specs.Batches.{AreWithin}
 use Rattle.flusher.specs.Rounds.{IsRound}
 use Rattle.flusher.specs.Served.{HasServed}
@@ -44,12 +48,12 @@ returns-then-level-clause-round g c =
     let base = g.J.Centre.base in
     let old = c.args.self.now in
     let t = c.take_batch.ensures.taken in
-    let s = c.commit_and_answer.ensures.served old.publication.publisher.published in
+    let s = c.commit_and_answer.ensures.served old.publication.publisher.published old.publication.attempts c.catch_up-level.ensures.tried in
     record {
       popped = t.0;
       taken = t.1;
       ended = t.3;
-      served = subst (λ (q : List (Asked Global) × List (Asked Global)). HasServed base (progress old.publication.publisher.published q.0 (store_view old.committer.store) old.committer.attempts) (progress_by c.commit_and_answer.new.publication c.commit_and_answer.new.committer) q.1 old.senders.items c.commit_and_answer.new.senders.items)
+      served = subst (λ (q : List (Asked Global) × List (Asked Global)). HasServed base (g.D.Disk.view c.commit_and_answer.new.committer.store.disk).moment (progress old.publication.publisher.published q.0 (store_view old.committer.store) (tries old.committer.attempts old.publication.attempts)) (progress_by c.commit_and_answer.new.publication c.commit_and_answer.new.committer) q.1 old.senders.items c.commit_and_answer.new.senders.items)
           (λ j. (c.catch_up-level.ensures.durable j, sym t.2 j)) s;
     }
 
@@ -66,16 +70,16 @@ returns-then-level-clause-settled g c =
       durable = durable_of n.publication;
       senders = n.senders.items;
       store = store_view n.committer.store;
-      attempts = n.committer.attempts;
+      attempts = tries n.committer.attempts n.publication.attempts;
       ended = c.take_batch.new.ended.items;
     } in
-    let r : IsRound base old now = returns-then-level-clause-round g c in
+    let r : IsRound g.D.Disk.view base old now = returns-then-level-clause-round g c in
     record {
       history = c.commit_and_answer.ensures.history;
       made = c.commit_and_answer.ensures.made;
       prefix = c.commit_and_answer.ensures.prefix;
-      sent = round_sent base old now s.history r s.sent;
-      order = round_order base old now r s.order;
+      sent = round_sent g.D.Disk.view base old now s.history r s.sent;
+      order = round_order g.D.Disk.view base old now r s.order;
       ended = ended_after _ _ t.0 _ _ t.1 t.3 s.ended;
     }
 
@@ -96,7 +100,7 @@ returns-then-level-clause-stored g c =
       durable = durable_of n.publication;
       senders = n.senders.items;
       store = store_view n.committer.store;
-      attempts = n.committer.attempts;
+      attempts = tries n.committer.attempts n.publication.attempts;
       ended = c.take_batch.new.ended.items;
     } in
     stored_on g.D.Disk.view base (view_of old) now batch (ap commands_among t.1.taken ∙ commands_among-append old.taker.taken t.0 ∙ ap (λ l. commands_among old.taker.taken ++ l) t.2) (when c.is_sound-sound.result _ _ c.is_sound-sound.ensures (when c.catch_up-level.result _ _ c.catch_up-level.ensures.level c.if-level.true).2) (c.requires.settled.made (when c.is_sound-sound.result _ _ c.is_sound-sound.ensures (when c.catch_up-level.result _ _ c.catch_up-level.ensures.level c.if-level.true).2)) c.requires.settled.order e.images
@@ -109,13 +113,16 @@ returns-clause-round g c =
     let t = c.take_batch.ensures.taken in
     let new = c.catch_up-level.new.self in
     let e = c.catch_up-level.ensures in
-    let served = served_idle base (store_view old.committer.store) old.committer.attempts old.committer.attempts old.publication.publisher.published (durable_of old.publication) new.publisher.published (durable_of new) (commands_in c.take_batch.new.room.batch.items)
-    old.senders.items c.refuse.new.senders.items c.is_sound-sound.result c.fault_of.result c.is_sound-sound.ensures c.fault_of.ensures c.requires.settled.prefix (e.lagging c.if-level.false) (unless c.catch_up-level.result _ _ e.level c.if-level.false) e.durable c.refuse.ensures.answered in
+    let moment = (g.D.Disk.view old.committer.store.disk).moment in
+    let served = served_idle base moment (store_view old.committer.store) (tries old.committer.attempts old.publication.attempts) (tries old.committer.attempts new.attempts) old.publication.publisher.published (durable_of old.publication) new.publisher.published (durable_of new) (commands_in c.take_batch.new.room.batch.items)
+    old.senders.items c.refuse.new.senders.items c.is_sound-sound.result c.fault_of.result c.is_sound-sound.ensures c.fault_of.ensures c.requires.settled.prefix (e.lagging c.if-level.false) (e.refused c.if-level.false) (unless c.catch_up-level.result _ _ e.level c.if-level.false) e.durable
+    (subst (λ (q : ℕ × List (Asked Global)). HaveAnswered old.senders.items (sent_to_all q.0 q.1 (decision_for_all c.fault_of.result) (commands_in c.take_batch.new.room.batch.items)) c.refuse.new.senders.items)
+    (λ j. ((ap (λ (m : Moment). m.tick) c.stamp-stamp.ensures.1 ∙ c.moment.ensures) j, c.stamp-stamp.ensures.0 j)) c.refuse.ensures.answered) in
     record {
       popped = t.0;
       taken = t.1;
       ended = t.3;
-      served = subst (λ (cs : List (Asked Global)). HasServed base (progress old.publication.publisher.published (durable_of old.publication) (store_view old.committer.store) old.committer.attempts) (progress new.publisher.published (durable_of new) (store_view old.committer.store) old.committer.attempts) cs old.senders.items c.refuse.new.senders.items)
+      served = subst (λ (cs : List (Asked Global)). HasServed base moment (progress old.publication.publisher.published (durable_of old.publication) (store_view old.committer.store) (tries old.committer.attempts old.publication.attempts)) (progress new.publisher.published (durable_of new) (store_view old.committer.store) (tries old.committer.attempts new.attempts)) cs old.senders.items c.refuse.new.senders.items)
           (sym t.2) served;
     }
 
@@ -132,16 +139,16 @@ returns-clause-settled g c =
       durable = durable_of new;
       senders = c.refuse.new.senders.items;
       store = store_view c.args.self.now.committer.store;
-      attempts = c.args.self.now.committer.attempts;
+      attempts = tries c.args.self.now.committer.attempts new.attempts;
       ended = c.take_batch.new.ended.items;
     } in
-    let r : IsRound base old now = returns-clause-round g c in
+    let r : IsRound g.D.Disk.view base old now = returns-clause-round g c in
     record {
       history = subst (IsHistory g.J.Centre.base) (sym e.durable) s.history;
       made = λ up. s.made up ∙ ap (after g.J.Centre.base) (sym e.durable);
       prefix = subst (λ (q : List (Asked Global) × List (Asked Global)). IsPrefix q.0 q.1) (λ j. (sym (unless c.catch_up-level.result _ _ e.level c.if-level.false) j, sym e.durable j)) s.prefix;
-      sent = round_sent base old now s.history r s.sent;
-      order = round_order base old now r s.order;
+      sent = round_sent g.D.Disk.view base old now s.history r s.sent;
+      order = round_order g.D.Disk.view base old now r s.order;
       ended = let t = c.take_batch.ensures.taken in ended_after _ _ t.0 _ _ t.1 t.3 s.ended;
     }
 
@@ -161,7 +168,7 @@ returns-clause-stored g c =
       durable = durable_of new;
       senders = c.refuse.new.senders.items;
       store = store_view old.committer.store;
-      attempts = old.committer.attempts;
+      attempts = tries old.committer.attempts new.attempts;
       ended = c.take_batch.new.ended.items;
     } in
     stored_still g.D.Disk.view base (view_of old) now batch (ap commands_among t.1.taken ∙ commands_among-append old.taker.taken t.0 ∙ ap (λ l. commands_among old.taker.taken ++ l) t.2) refl c.catch_up-level.ensures.durable
@@ -169,7 +176,7 @@ returns-clause-stored g c =
 pub invariant_of-self : goal.invariant_of-self
 invariant_of-self g c =
     let t = c.take_batch.ensures.taken in
-    let n = (c.commit_and_answer.ensures.served []).answered.count in
+    let n = (c.commit_and_answer.ensures.served [] c.catch_up-level.new.self.attempts (inl refl)).answered.count in
     record {
       stations = t.1.made ∙ c.args.self.now.stations ∙ sym n;
       flags = t.1.made ∙ c.args.self.now.flags ∙ sym (ap length t.3 ∙ length-ended t.0 c.args.self.now.ended.items);

@@ -1,4 +1,4 @@
-use Rattle.std.proofs.Common.{◌≡◌, true, ◌≤◌, ◌+◌, ◌-◌, ◌++◌, List, length, take, drop, ap, sym, ◌∙◌, subst, arith}
+use Rattle.std.proofs.Common.{◌≡◌, ◌-◌, ◌++◌, List, length, take, drop, ap, sym, ◌∙◌, subst, arith}
 use Rattle.std.specs.Prelude.{replicate}
 use Rattle.std.proofs.lemmas.List.{take-append-drop, length-drop, length-take-le}
 use Rattle.std.specs.declared.alloc.Global.{Global}
@@ -7,7 +7,7 @@ use Rattle.answers.specs.Views.{received_of}
 use Rattle.flusher.specs.declared.answer.Answer.{Answer}
 use Rattle.flusher.specs.declared.answer.Answer.TheVariants as answer
 use Rattle.flusher.specs.Heard.{heard, session_view}
-use Rattle.flusher.specs.Submitted.{AreSubmissions, are_submitted}
+use Rattle.flusher.specs.Submitted.{AreSubmissions}
 use Rattle.flusher.proofs.Submitting.{more_submitted}
 use Rattle.flusher.proofs.Together.{seen_longer, then_refused, together}
 use Rattle.flusher.proofs.session.Session.submit_all.Goals as goal

@@ -6,10 +6,10 @@ use Rattle.stations.proofs.session_desk.SessionDeskDeskGlobal.list.Goals as goal
 
 pub returns-clause-listed : goal.returns-clause-listed
 returns-clause-listed g c =
-    subst (λ (s : Session g.row.J.Denot). OnOk c.list-listed.result (IsListed (of_session g.row.J.Denot g.J.Centre.base) (at_session s)
+    subst (λ (s : Session g.row.J.Denot). OnOk c.list-listed.result (IsListed (of_session g.row.J.Denot g.J.Centre.base g.K.Began.may_order) (at_session s)
     c.args.listing.now c.args.out.now.items c.list-listed.new.out.items (at_session c.list-listed.new.session))) c.self.view_is c.list-listed.ensures.listed
 
 pub returns-clause-unlisted : goal.returns-clause-unlisted
 returns-clause-unlisted g c =
-    subst (λ (s : Session g.row.J.Denot). IfErr c.list-listed.result (λ word. IsUnlisted (of_session g.row.J.Denot g.J.Centre.base) (at_session s)
+    subst (λ (s : Session g.row.J.Denot). IfErr c.list-listed.result (λ word. IsUnlisted (of_session g.row.J.Denot g.J.Centre.base g.K.Began.may_order) (at_session s)
     c.args.listing.now (vec_len c.args.out.now) (vec_capacity c.args.out.now) word (at_session c.list-listed.new.session))) c.self.view_is c.list-listed.ensures.unlisted

@@ -1,4 +1,4 @@
-use Rattle.console.proofs.running.run.Given as goal
+use Rattle.console.proofs.running.run_under.Given as goal
 
 -- the ledgers of the steps, the faults and the failures, which are not kept
 abbrev pub ghosts-run_in-L-Ledger : goal.ghosts-run_in-L-Ledger

@@ -1,0 +1,182 @@
+-- What passes by the writer of a run, a part after another.
+use Rattle.std.proofs.Common.{◌≡◌, ℕ, ◌≤◌, List, [], ◌∷◌, ◌++◌, length, take, drop, refl, sym, ◌∙◌, ap, subst, append_assoc, Result, Some, Ok, Err}
+use Rattle.std.specs.List.{list_any}
+use Rattle.std.specs.Str.Lines.{lines}
+use Rattle.std.proofs.lemmas.List.{append-nil, take-append-drop}
+use Rattle.std.proofs.lemmas.List.Concat.{flat_map-append}
+use Rattle.std.proofs.lemmas.Result.{IfOk-weaker, on_err_weaker}
+use Rattle.console.specs.declared.running.Ran.{Ran}
+use Rattle.console.specs.declared.running.RunFault.{RunFault}
+use Rattle.console.specs.declared.answer.Answer.{Answer}
+use Rattle.console.specs.Answer.{text, texts, is_trouble}
+use Rattle.desk.specs.Rules.{Rules}
+use Rattle.console.specs.Dialogue.{Dialogue}
+use Rattle.console.specs.Events.{Event, Read, Answered, Wrote, bytes_read, text_answered, bytes_written, read_by, answered_by, written_by, OnlyAnswers}
+use Rattle.console.specs.Told.{IsTold}
+use Rattle.console.specs.Runs.{Start, HasRun}
+use Rattle.console.specs.Inside.Passing.{Leaves, Passes, PassesPart, Sent}
+use Rattle.console.specs.Inside.Feed.{HasEnded}
+
+-- ---- only what waits is written
+
+leaves_on : (p q r : List ℕ) (first second : List Event) → Leaves p first q → Leaves q second r → Leaves p (first ++ second) r
+leaves_on p q r [] second is also = subst (λ (w : List ℕ). Leaves w second r) is also
+leaves_on p q r (Read bytes ∷ first) second is also = leaves_on p q r first second is also
+leaves_on p q r (Answered text ∷ first) second is also = leaves_on (p ++ text) q r first second is also
+leaves_on p q r (Wrote bytes ∷ first) second is also = (is.0, is.1, leaves_on is.0 q r first second is.2 also)
+
+-- one write more, and what is written and waits
+wrote_one : (p bytes rest answered written left : List ℕ) → p ≡ bytes ++ rest → rest ++ answered ≡ written ++ left → p ++ answered ≡ (bytes ++ written) ++ left
+wrote_one p bytes rest answered written left is also =
+    ap (λ w. w ++ answered) is ∙ append_assoc bytes rest answered ∙ ap (λ w. bytes ++ w) also ∙ sym (append_assoc bytes written left)
+
+-- what waited and what was answered is what was written and what is left
+balance : (p r : List ℕ) (events : List Event) → Leaves p events r → p ++ answered_by events ≡ written_by events ++ r
+balance p r [] is = append-nil p ∙ sym is
+balance p r (Read bytes ∷ events) is = balance p r events is
+balance p r (Answered text ∷ events) is = sym (append_assoc p text (answered_by events)) ∙ balance (p ++ text) r events is
+balance p r (Wrote bytes ∷ events) is = wrote_one p bytes is.0 (answered_by events) (written_by events) r is.1 (balance is.0 r events is.2)
+
+-- so it is at each moment
+at_moment : (p r : List ℕ) (before after : List Event) → Leaves p (before ++ after) r → (waiting : List ℕ) × (p ++ answered_by before ≡ written_by before ++ waiting)
+at_moment p r [] after is = (p, append-nil p)
+at_moment p r (Read bytes ∷ before) after is = at_moment p r before after is
+at_moment p r (Answered text ∷ before) after is =
+    let more = at_moment (p ++ text) r before after is in
+    (more.0, sym (append_assoc p text (answered_by before)) ∙ more.1)
+at_moment p r (Wrote bytes ∷ before) after is =
+    let more = at_moment is.0 r before after is.2 in
+    (more.0, wrote_one p bytes is.0 (answered_by before) (written_by before) more.0 is.1 more.1)
+
+only_answers : (r : List ℕ) (events : List Event) → Leaves [] events r → OnlyAnswers events
+only_answers r events is before after parts = at_moment [] r before after (subst (λ (all : List Event). Leaves [] all r) parts is)
+
+-- ---- from one moment to another
+
+-- nothing passes
+pub nothing_passes : (old new : Sent) (waiting : List ℕ) → new.events ≡ old.events → ((held : List ℕ) → old.bytes ≡ Some held → new.bytes ≡ Some held) → Passes old new waiting [] waiting
+nothing_passes old new waiting same kept = record {
+  events = [];
+  follows = (same ∙ sym (append-nil old.events), λ held known. kept held known ∙ ap Some (sym (append-nil held)));
+  answers = refl;
+  only = refl;
+}
+
+-- an answer is given
+pub answer_passes : (old new : Sent) (waiting text : List ℕ) → new.events ≡ old.events ++ Answered text ∷ [] → new.bytes ≡ old.bytes → Passes old new waiting text (waiting ++ text)
+answer_passes old new waiting text one same = record {
+  events = Answered text ∷ [];
+  follows = (one, λ held known. same ∙ known ∙ ap Some (sym (append-nil held)));
+  answers = append-nil text;
+  only = refl;
+}
+
+-- a prefix of what waits is written
+pub write_passes : (old new : Sent) (waiting : List ℕ) (n : ℕ) → new.events ≡ old.events ++ Wrote (take n waiting) ∷ [] →
+    ((held : List ℕ) → old.bytes ≡ Some held → new.bytes ≡ Some (held ++ take n waiting)) → Passes old new waiting [] (drop n waiting)
+write_passes old new waiting n one kept = record {
+  events = Wrote (take n waiting) ∷ [];
+  follows = (one, λ held known. kept held known ∙ ap (λ more. Some (held ++ more)) (sym (append-nil (take n waiting))));
+  answers = refl;
+  only = (drop n waiting, sym (take-append-drop n waiting), refl);
+}
+
+-- one part after another
+pub passes_on : (old mid new : Sent) (p x q y r : List ℕ) → Passes old mid p x q → Passes mid new q y r → Passes old new p (x ++ y) r
+passes_on old mid new p x q y r first second = record {
+  events = first.events ++ second.events;
+  follows = (
+    second.follows.0 ∙ ap (λ events. events ++ second.events) first.follows.0 ∙ append_assoc old.events first.events second.events,
+    λ held known. second.follows.1 (held ++ written_by first.events) (first.follows.1 held known)
+        ∙ ap Some (append_assoc held (written_by first.events) (written_by second.events)
+        ∙ ap (λ more. held ++ more) (sym (flat_map-append bytes_written first.events second.events))),
+  );
+  answers = flat_map-append text_answered first.events second.events ∙ (λ j. first.answers j ++ second.answers j);
+  only = leaves_on p q r first.events second.events first.only second.only;
+}
+
+-- by other names for what waits, what is answered and what is left
+pub passes_by : (old new : Sent) (p x q p' x' q' : List ℕ) → p ≡ p' → x ≡ x' → q ≡ q' → Passes old new p x q → Passes old new p' x' q'
+passes_by old new p x q p' x' q' waits answers leaves so =
+    subst (λ (w : List ℕ × (List ℕ × List ℕ)). Passes old new w.0 w.1.0 w.1.1) (λ j. (waits j, (answers j, leaves j))) so
+
+-- the writer failed: what passed before, and the answers that come after
+pub part_passes : (old mid new : Sent) (made page left total more : List ℕ) → Passes old mid [] made page → Passes mid new page [] left → total ≡ made ++ more → PassesPart old new total
+part_passes old mid new made page left total more first second whole =
+    (made, more, left, whole, passes_by old new [] (made ++ []) left [] made left refl (append-nil made) refl (passes_on old mid new [] made page [] left first second))
+
+-- ---- the end of a run
+
+module _ {A W : Type 0} (rules : Rules A W) (start : Start W) (begun : Sent) where
+  -- every line is answered, and nothing is left
+  pub told_all : (input : List ℕ) (now : Sent) (t : W) (ran : Ran) (answers : List (Answer A)) → Dialogue rules start.speaker 0 start.world (lines input) answers t →
+      ran.troubled ≡ list_any is_trouble answers → ran.lines ≡ length (lines input) → Passes begun now [] (texts answers) [] →
+      HasEnded rules start begun input now t (Ok ran)
+  told_all input now t ran answers each troubled counts passed =
+      let written : answered_by passed.events ≡ written_by passed.events = balance [] [] passed.events passed.only ∙ append-nil (written_by passed.events) in (
+        passed.events,
+        passed.follows,
+        (
+          only_answers [] passed.events passed.only,
+          (record { answers = answers; each = each; written = sym written ∙ passed.answers; trouble = troubled }, counts, written),
+          tt,
+        ),
+      )
+
+  -- the last answers are given, or some of them, and some of their text may be left
+  pub told_some : (input : List ℕ) (mid now : Sent) (t : W) (fault : RunFault) (done left : List (List ℕ)) (answered last : List (Answer A)) (made missing rest : List ℕ) →
+      lines input ≡ done ++ left → Dialogue rules start.speaker 0 start.world done (answered ++ last) t → length last ≤ 64 → texts last ≡ made ++ missing →
+      Passes begun mid [] (texts answered) [] → Passes mid now [] made rest →
+      HasEnded rules start begun input now t (Err fault)
+  unfolding passes_on
+  told_some input mid now t fault done left answered last made missing rest all each few whole first second =
+      let both = passes_on begun mid now [] (texts answered) [] made rest first second in
+      let before : written_by first.events ≡ texts answered = sym (append-nil (written_by first.events)) ∙ sym (balance [] [] first.events first.only) ∙ first.answers in
+      let after : made ≡ written_by second.events ++ rest = sym second.answers ∙ balance [] rest second.events second.only in (
+        both.events,
+        both.follows,
+        (
+          only_answers rest both.events both.only,
+          tt,
+          (
+            record {
+              done = done;
+              left = left;
+              answered = answered;
+              last = last;
+              part = written_by second.events;
+              missing = rest ++ missing;
+              all = all;
+              each = each;
+              few = few;
+              prefix = whole ∙ ap (λ l. l ++ missing) after ∙ append_assoc (written_by second.events) rest missing;
+              written = flat_map-append bytes_written first.events second.events ∙ ap (λ l. l ++ written_by second.events) before;
+            },
+            missing,
+            flat_map-append text answered last ∙ ap (λ l. texts answered ++ l) whole ∙ sym (append_assoc (texts answered) made missing) ∙ ap (λ l. l ++ missing) (sym both.answers),
+          ),
+        ),
+      )
+
+  -- by other names for the input and the result
+  pub told_by : (input input' : List ℕ) (now : Sent) (t : W) (r r' : Result Ran RunFault) → input ≡ input' → r ≡ r' → HasEnded rules start begun input now t r → HasEnded rules start begun input' now t r'
+  told_by input input' now t r r' same ends so = subst (λ (q : List ℕ × Result Ran RunFault). HasEnded rules start begun q.0 now t q.1) (λ j. (same j, ends j)) so
+
+  -- if the bytes of the writer are known
+  pub has_run : (input held : List ℕ) (now : Sent) (t : W) (r : Result Ran RunFault) → begun.bytes ≡ Some held → HasEnded rules start begun input now t r →
+      HasRun A rules start (record { result = r; world = t; written = now.bytes }) input held
+  has_run input held now t r known so = (
+    written_by so.0,
+    so.1.1 held known,
+    IfOk-weaker r _ _ (λ ran well. (well.0, well.1)) so.2.1,
+    on_err_weaker r (λ short. short.0) so.2.2,
+  )
+
+-- what the reader gave
+pub read_more : (old new : List Event) (base taken bytes : List ℕ) → new ≡ old ++ Read bytes ∷ [] → read_by old ≡ base ++ taken → read_by new ≡ base ++ (taken ++ bytes)
+read_more old new base taken bytes one so =
+    ap read_by one ∙ flat_map-append bytes_read old (Read bytes ∷ []) ∙ (λ j. so j ++ append-nil bytes j) ∙ append_assoc base taken bytes
+
+pub told_of : {A W : Type 0} (rules : Rules A W) (start : Start W) (begun now : Sent) (t : W) (r : Result Ran RunFault) (base given all : List ℕ) → all ≡ base ++ given → HasEnded rules start begun given now t r →
+    (taken : List ℕ) × (events : List Event) × (all ≡ base ++ taken) × (now.events ≡ begun.events ++ events) × IsTold A rules start.speaker start.world t taken events r
+told_of rules start begun now t r base given all is so = (given, so.0, is, so.1.0, so.2)

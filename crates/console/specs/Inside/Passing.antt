@@ -1,0 +1,36 @@
+-- What passes by the writer of a run.
+use Rattle.std.specs.Prelude.{◌≡◌, List, [], ◌∷◌, ◌++◌, Option, Some}
+use Rattle.identity.specs.Numbers.{Byte}
+use Rattle.console.specs.declared.output.Output.{Output}
+use Rattle.console.specs.Events.{Event, Read, Answered, Wrote, answered_by, written_by}
+
+-- the bytes of a writer, if they are known, and what passed
+pub record Sent : Type 0 where
+  pub bytes : Option (List Byte)
+  pub events : List Event
+
+-- those of an output, by the bytes of its writer
+abbrev pub sent_by : {W G : Type 0} → (W → Option (List Byte)) → Output W G → Sent
+sent_by contents output = record { bytes = contents output.writer.now; events = output.events.list }
+
+-- these events come next; if the bytes of the writer are known, they have what is written at these events after them
+abbrev pub Follows : Sent → List Event → Sent → Type 0
+Follows old events new = (new.events ≡ old.events ++ events) × ((held : List Byte) → old.bytes ≡ Some held → new.bytes ≡ Some (held ++ written_by events))
+
+-- only what waits is written, first come first: from the text that waits before these events to the text that waits after them
+abbrev pub Leaves : List Byte → List Event → List Byte → Type 0
+Leaves waiting [] left = left ≡ waiting
+Leaves waiting (Read bytes ∷ events) left = Leaves waiting events left
+Leaves waiting (Answered text ∷ events) left = Leaves (waiting ++ text) events left
+Leaves waiting (Wrote bytes ∷ events) left = (rest : List Byte) × (waiting ≡ bytes ++ rest) × Leaves rest events left
+
+-- events from one moment to another: the text that waits at the first, the answers that are given, and the text that is left
+pub record Passes (old new : Sent) (waiting answered left : List Byte) : Type 0 where
+  pub events : List Event
+  pub follows : Follows old events new
+  pub answers : answered_by events ≡ answered
+  pub only : Leaves waiting events left
+
+-- the same where the writer failed: only a prefix of these answers was given, and some of their text may be left
+abbrev pub PassesPart : Sent → Sent → List Byte → Type 0
+PassesPart old new answered = (made : List Byte) × (missing : List Byte) × (left : List Byte) × (answered ≡ made ++ missing) × Passes old new [] made left
