@@ -246,7 +246,14 @@ SMALL = [([1, 1], [1, 1])], [1, 2]
 OTHERS = [([2], [1])], [1]
 RING, IN = 'self.ring();\n', ' ' * 8
 ANNOUNCED, SETTLED = (f'self.announced.{call}(1, Ordering::SeqCst);\n' for call in ('fetch_add', 'fetch_sub'))
-ANNOUNCES, SUBMITS = 'self.watch.before_entry(station);\n', 'let replied = submit(self.rt, &mut self.session, alloc, command);\n'
+ANNOUNCES = 'self.watch.before_entry(station);\n'
+SUBMITS = f'''let means = Means {{
+{IN}    rt: self.rt,
+{IN}    alloc,
+{IN}    orders: self.orders,
+{IN}}};
+{IN}let replied = submit(&means, &mut self.session, command);
+'''
 # A bug, its file, the text and what becomes of it
 PLANTS = [
     ('sleeps in the round that took the last end', DOORBELL, '1, Ordering::SeqCst) <= PATIENCE', '1, Ordering::SeqCst) < PATIENCE'),
