@@ -11,6 +11,7 @@ output is a terminal, answers are put in words. There are these words too:
   group-message FROM GROUP "TEXT"        sends a text to the members of a group
   attach ITSI LA, detach ITSI            makes a radio present, as FROM has to be; makes it absent
   mail [ITSI], radios [PREFIX]           what waits, and where radios are, in words
+  waiting [STATION]                      what there is to deliver at a station, or at this one
   watch [SECONDS]                        prints what changes in `radios` and `items`, until it is interrupted
   history, help, quit
 
@@ -23,6 +24,7 @@ A base station does this, from another file beside this one:
     with desk.Client(desk.link_to('/run/tetra-switch', 1), 1) as client:
         update = client.ask('mm 234-14-2001 7 10:260')
         print(update.outcome, update.pdu)
+        print(client.ask('waiting 1').told[1:])
 """
 import argparse
 import collections
@@ -39,7 +41,7 @@ import time
 
 LAST_SEQUENCE, WIDEST_GAP, REFERENCES = 2 ** 32 - 1, 1000, 256
 COMMANDS = 'rule', 'unrule', 'mm', 'sds', 'gsds', 'sent', 'delete', 'expire'
-LISTS = 'groups', 'members', 'mail', 'rules', 'radios', 'items', 'due'
+LISTS = 'groups', 'members', 'mail', 'rules', 'radios', 'items', 'due', 'waiting', 'dump', 'service'
 OUTAGES = 'memory', 'device', 'broken', 'epochs', 'closed'
 ATTACH, DETACH = '10:260', '5:10'
 # Of SDS-TL: the protocol identifier of text messages, and the coding schemes of texts with Python's names for them
@@ -446,6 +448,10 @@ class Desk:
         self.client.ask('mail ' + itsi if itsi else 'items')
 
     @takes(0, 1)
+    def waiting(self, station=None):
+        self.client.ask('waiting %s' % (station or self.client.station))
+
+    @takes(0, 1)
     def watch(self, seconds='5'):
         """Prints each line that is new, and each that is gone."""
         before = []
@@ -469,7 +475,7 @@ class Desk:
 
 
 WORDS = {'message': Desk.message, 'group-message': Desk.group_message, 'attach': Desk.attach, 'detach': Desk.detach, 'mail': Desk.mail,
-         'watch': Desk.watch, 'history': Desk.history, 'help': Desk.help}
+         'waiting': Desk.waiting, 'watch': Desk.watch, 'history': Desk.history, 'help': Desk.help}
 
 
 # Answers in words
@@ -494,6 +500,8 @@ def shown(line):
         return ['refused: ' + ' '.join(words[2:])]
     if line.outcome in OUTAGES:
         return ['not carried out: ' + line.outcome]
+    if words[0] == 'dump':
+        return line.told
     if words[0] in LISTS:
         return ['%s: %s' % (' '.join(words[:-1]), words[-1]), *entries(line, False)]
     return line.told

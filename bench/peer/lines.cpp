@@ -229,6 +229,16 @@ bool answer_due(Text &text, const Centre &centre, Word words)
     return true;
 }
 
+bool answer_waiting(Text &text, const Centre &centre, Word words)
+{
+    std::uint16_t station;
+    if (!read_number(words[0], 0, most_station, station))
+        return false;
+    text << "waiting " << station;
+    print_waiting(text, centre, station);
+    return true;
+}
+
 bool answer_last(Text &text, const Centre &centre, Word words)
 {
     std::uint16_t station;
@@ -246,6 +256,13 @@ bool answer_room(Text &text, const Centre &centre, Word)
     return true;
 }
 
+bool answer_dump(Text &text, const Centre &centre, Word)
+{
+    text << "dump";
+    print_dump(text, centre);
+    return true;
+}
+
 struct ListingForm {
     std::string_view keyword;
     std::size_t words;
@@ -254,7 +271,7 @@ struct ListingForm {
 
 constexpr ListingForm listings[] = {
     {"count", 0, answer_count}, {"rules", 0, answer_rules}, {"radios", 0, answer_radios}, {"radios", 1, answer_radios_under},
-    {"items", 0, answer_items}, {"due", 1, answer_due}, {"last", 1, answer_last}, {"room", 0, answer_room},
+    {"items", 0, answer_items}, {"due", 1, answer_due}, {"waiting", 1, answer_waiting}, {"last", 1, answer_last}, {"room", 0, answer_room}, {"dump", 0, answer_dump},
 };
 
 // Lines that ask nothing of the register. Each gets the number of its station and the words after the keyword, and prints its answer.

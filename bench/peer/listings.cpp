@@ -67,6 +67,17 @@ void print_item(Text &text, const Mail::Entry &entry, bool names_destination)
     text << '\n';
 }
 
+namespace {
+
+void print_list(Text &text, const std::vector<const Mail::Entry *> &items)
+{
+    text << ' ' << items.size() << '\n';
+    for (const Mail::Entry *entry : items)
+        print_item(text, *entry, true);
+}
+
+}
+
 void print_rules(Text &text, const Centre &centre)
 {
     const auto rules = listed(centre.all_rules().all(), [](const RuleEntry &) { return true; }, prefix_order);
@@ -92,10 +103,16 @@ void print_radios(Text &text, const Centre &centre, Prefix under)
 void print_items(Text &text, const Centre &centre, std::optional<std::uint32_t> due)
 {
     const auto is_due = [=](const Mail::Entry &entry) { return !due || entry.second.item.deadline <= *due; };
-    const auto items = listed(centre.all_mail().all(), is_due, item_order);
-    text << ' ' << items.size() << '\n';
-    for (const Mail::Entry *entry : items)
-        print_item(text, *entry, true);
+    print_list(text, listed(centre.all_mail().all(), is_due, item_order));
+}
+
+void print_waiting(Text &text, const Centre &centre, std::uint16_t station)
+{
+    const auto is_there = [&](const Mail::Entry &entry) {
+        const Radio *radio = centre.all_radios().find(entry.first.destination);
+        return radio && radio->is_present && radio->station == station;
+    };
+    print_list(text, listed(centre.all_mail().all(), is_there, item_order));
 }
 
 void print_last(Text &text, const Centre &centre, std::uint16_t station)
@@ -122,4 +139,35 @@ void print_room(Text &text, const Centre &centre)
         text << box->first << ' ' << box->second.size() << '/' << most_items << '\n';
     else
         text << "none\n";
+}
+
+void print_dump(Text &text, const Centre &centre)
+{
+    const auto any = [](const auto &) { return true; };
+    const Limits &limits = centre.all_limits();
+    const auto rules = listed(centre.all_rules().all(), any, prefix_order);
+    const auto radios = listed(centre.all_radios().all(), any, [](const Radios::Table::value_type &entry) { return entry.first; });
+    const auto items = listed(centre.all_mail().all(), any, item_order);
+    text << ' ' << 2 + rules.size() + radios.size() + items.size() + centre.served_stations() << '\n';
+    text << "tetra-switch register 1 rules " << limits.rules << " radios " << limits.radios << " items " << limits.mail << " stations " << limits.stations << '\n';
+    text << "count " << centre.count() << " rules " << rules.size() << " radios " << radios.size() << " items " << items.size() << " stations "
+         << centre.served_stations() << '\n';
+    for (const RuleEntry *entry : rules) {
+        text << "rule";
+        print_rule(text, *entry);
+    }
+    for (const auto *entry : radios) {
+        const Radio &radio = entry->second;
+        text << "radio " << entry->first << " station " << radio.station << " la " << radio.area << (radio.is_present ? " present" : " absent");
+        for (const Attachment &one : radio.groups)
+            text << ' ' << one.group << ' ' << one.usage << ' ' << one.life;
+        text << '\n';
+    }
+    for (const Mail::Entry *entry : items)
+        print_item(text, *entry, true);
+    for (std::uint16_t station = 1; station <= limits.stations; ++station)
+        if (centre.last_of(station)) {
+            text << "last " << station;
+            print_last(text, centre, station);
+        }
 }

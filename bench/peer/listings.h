@@ -15,8 +15,10 @@ void print_item(Text &text, const Mail::Entry &entry, bool names_destination);
 void print_rules(Text &text, const Centre &centre);
 void print_radios(Text &text, const Centre &centre, Prefix under);
 void print_items(Text &text, const Centre &centre, std::optional<std::uint32_t> due);
+void print_waiting(Text &text, const Centre &centre, std::uint16_t station);
 void print_last(Text &text, const Centre &centre, std::uint16_t station);
 void print_room(Text &text, const Centre &centre);
+void print_dump(Text &text, const Centre &centre);
 
 // Where a radio is, or was last.
 void print_whereabouts(Text &text, const Radio &radio);

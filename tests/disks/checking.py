@@ -2,7 +2,7 @@
 """Runs `check` of the built program over disks of both layouts: worked ones (checked_disks.py), those that runs and stops leave, a disk
 with each byte that opening reads changed, and files that are no disks. The program must print what the independent reading
 (tests/reading/) says, or the case, and end with its status. It must report as lost the sector that `show` reports as damaged, and
-write nothing. Prints the seed, a line for each part, the first cases that fail, and last 'N passed, M failed'.
+write nothing. On each disk `check --rest` must print the register that is left (rests.py). Prints the seed, a line for each part, the first cases that fail, and last 'N passed, M failed'.
 Usage: tests/run checking PROGRAM [--seed N]"""
 import collections
 import fcntl
@@ -14,10 +14,11 @@ import subprocess
 import batches
 import changed_disks
 import refusing
+import rests
 from changed_disks import GATE_BYTES, LABEL_BYTES, ROOT_BYTES, gates, with_byte, with_sector
 from checked_disks import cases
 from disk_files import DISK, HELD, LINES, MEMORY, MISSING, NOT_A_FILE, fault_line, file_fault, place, settings, text, untouched
-from file_cases import BAD_GEOMETRY, COUNT, DEVICE, STREAMS, UNFORMATTED, opened_to_write, with_closed
+from file_cases import BAD_GEOMETRY, COUNT, STREAMS, UNFORMATTED, opened_to_write, with_closed
 from hostile_disks import lengths
 from made_disks import FORMS, as_plain
 from pending import Disk, choices
@@ -77,7 +78,11 @@ def prints(place, status, out, err):
 
 
 def an_image(place, image):
+    """One rest in eight is loaded."""
     place.put(image)
+    out = rests.gives_rest(place, image)
+    if out and sum(out) % 8 == 0:
+        rests.loads(place, image, out)
     return prints(place, *wanted(image))
 
 
@@ -229,7 +234,10 @@ def no_disk(place):
 
 def other_files(place):
     os.symlink('/dev/null', place.path())
-    both_say(place, 5, DEVICE)
+    both_say(place, 5, UNFORMATTED)
+    os.remove(place.path())
+    os.mkfifo(place.path())
+    both_say(place, 5, UNFORMATTED)
     os.remove(place.path())
     for data, err in (b'', UNFORMATTED), (bytes(SMALL_SECTORS * SECTOR), UNFORMATTED), (b'TETRALOC' + bytes(SECTOR), BAD_GEOMETRY):
         place.write(DISK, data)
@@ -299,6 +307,7 @@ def the_refused(command, images, count):
         for name, disk in ('sound', image), ('damaged', with_sector(image, row, bytes(SECTOR))):
             with place(command, MEMORY) as folder:
                 count.case(f'{FORMS[form]}, {name}, allocations refused', memory_that_ends, folder, disk)
+                count.case(f'{FORMS[form]}, {name}, allocations of a rest refused', rests.memory_that_ends, folder, disk)
 
 
 def the_files(command, images, count):
@@ -316,6 +325,7 @@ def main():
     print(f'seed {words.seed}', flush=True)
     dice, count = random.Random(words.seed), Count()
     with place(words.program, MEMORY) as folder:
+        rests.the_rests(folder, count)
         the_worked(folder, count)
         for form, name in FORMS.items():
             count.case(f'{name}, after runs', after_runs, folder, form, dice)

@@ -141,13 +141,14 @@ def queries(register):
 
 
 def listings(register):
-    """Each listing: of the radios under the prefix of each rule, the items due at the least and the greatest deadline and before, and
-    every station and the next."""
-    yield from ('rules', 'radios', 'items', 'room')
+    """Each listing: of the radios under the prefix of each rule, the items due at the least and the greatest deadline and before, those
+    that wait where a radio was last and at no station, and the last command of every station and of the next."""
+    yield from ('rules', 'radios', 'items', 'room', 'dump')
     yield from (f'radios {reading.print_identity(under.ljust(48, "0"))}/{len(under)}' for under in sorted(register.rules))
     deadlines = {item.deadline for item in register.mail.values()} or {0}
     edges = {max(deadline + change, 0) for deadline in (min(deadlines), max(deadlines)) for change in (-1, 0)}
     yield from (f'due {moment}' for moment in sorted(edges) if moment < 2 ** 32)
+    yield from (f'waiting {station}' for station in sorted({0, *(station for station, _, _ in register.radios.values())}))
     yield from (f'last {station}' for station in range(register.limits['stations'] + 2))
 
 

@@ -64,11 +64,15 @@ def links_in_a_circle(place):
     all_say(place, 4, err=file_fault(DISK))
 
 
-def a_device_as_a_disk(place):
-    """It can't be synced."""
-    os.symlink('/dev/null', place.path())
+def no_file_as_a_disk(place):
+    """Devices without blocks and pipes keep nothing."""
     place.write(LINES, b'')
-    all_say(place, 5, err=DEVICE)
+    for device in '/dev/null', '/dev/zero':
+        os.symlink(device, place.path())
+        all_say(place, 5, err=UNFORMATTED)
+        os.remove(place.path())
+    os.mkfifo(place.path())
+    all_say(place, 5, err=UNFORMATTED)
 
 
 def a_disk_of_zeros(place):
@@ -324,7 +328,7 @@ def run_past_a_limit(place):
 
 
 CASES = [
-    no_disk, a_folder_as_a_disk, strange_names, links_in_a_circle, a_device_as_a_disk, a_disk_of_zeros, another_layout,
+    no_disk, a_folder_as_a_disk, strange_names, links_in_a_circle, no_file_as_a_disk, a_disk_of_zeros, another_layout,
     no_permission_for_the_disk, no_permission_for_the_commands, no_permission_for_the_settings, no_permission_for_the_folder,
     held_by_another, held_by_a_run, no_commands, a_folder_of_commands, the_disk_is_judged_before_the_commands, strange_commands,
     nothing_lands_in_the_disk, formatted_past_a_limit, formatted_in_a_full_file_system, run_in_a_full_file_system, run_past_a_limit,

@@ -239,9 +239,11 @@ def items(copies, first, is_left=lambda destination, reference: True):
 
 
 def list_items(script, waiting):
-    """All of them, those that are due at the middle of the deadlines and just before, and how full the register is."""
+    """All of them, as all radios that they are for are at station 1; those that are due at the middle of the deadlines and just before."""
     waiting = list(waiting)
-    script.query('items', f'items {len(waiting)}', *(line for _, _, line in waiting))
+    for query in 'items', 'waiting 1':
+        script.query(query, f'{query} {len(waiting)}', *(line for _, _, line in waiting))
+    script.query('waiting 2', 'waiting 2 0')
     deadlines = sorted(ends for _, ends, _ in waiting)
     for moment in [deadlines[len(deadlines) // 2] - 1, deadlines[len(deadlines) // 2]] if waiting else [2 ** 32 - 1]:
         due = [line for _, ends, line in waiting if ends <= moment]

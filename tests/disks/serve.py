@@ -1,10 +1,11 @@
 #!/usr/bin/env python3
 """Runs `serve` of the built program on disks: one station on standard input and output; several over named pipes, files and devices.
 Each line is answered within a time limit before the next is sent. A pipe whose other end is missing, a reader that stalls or goes away,
-a file that can't be opened and a device that fails harm no other station. Pairs are left out, and only some stations may give orders. It
-judges stops by a signal, the processor time of stations that wait, and commands after random pauses. The independent reading
+a file that can't be opened and a device that fails harm no other station. Of long listings that nobody reads two are kept. Pairs are left out, and only some stations may give orders. The figures of the
+service are compared with its calls and its disk. It judges stops by a signal, the processor time of stations that wait, and commands after random pauses. The independent reading
 (tests/reading/) judges all answers and disks. Prints the seed, the first cases that fail, and last 'N passed, M failed'.
 Usage: tests/run serve PROGRAM [--lines N] [--commands N] [--runs N] [--seed N] (the program itself, not a script that starts it)"""
+import collections
 import contextlib
 import fcntl
 import functools
@@ -16,17 +17,25 @@ import signal
 import subprocess
 import time
 
+import preloading
+import reading
 import refusing
-from base_stations import (STATIONS, Resending, Station, at_once, ends_by, finish, go_on, judge, make_pipes, names_of, on_streams, reader_of,
+import registers
+from base_stations import (STATIONS, Resending, Station, all_names, at_once, ends_by, finish, go_on, judge, make_pipes, names_of, on_streams, reader_of,
                            serving, serving_pipes, status_of, stop, with_default, writer_of)
 from disk_files import DISK, HELD, MEMORY, MISSING, file_fault, is_private, place, register_of, text, untouched
+from made_disks import CLOSED, OPEN, label
 from many_files import LONG, SHORTEST, WHEN_BROKEN, formats, giving_orders
 from program import queued, receives, waits, without
 from program_disks import peak
+from progress import SLOW
+from reading_disks import figures
 from reading_orders import Answered, NoOrder, number_of
+from reading_queries import is_service
+from reading_rows import LATEST, SECTOR, rows
 from recorded_orders import Written
 from recorder import recorder
-from running import SECONDS, Differs, compare, ends
+from running import SECONDS, Differs, compare, ends, gives
 from station_faults import when_broken
 from station_lines import data_of, lines
 from stations import FIRST, held_open, not_served, twice
@@ -37,6 +46,8 @@ FIRST_TOLD, AGAIN_TOLD = text(['1 ok 1 -', '2 ok 2 8:56']), text(['1 no old-sequ
 MOST_TICKS = 3
 # How many commands of a station that is alone are done together at most
 AT_HAND = 64
+# So many items of 2,047 bits, up to 128 for a radio, are listed in more than 4 MiB. So many stations list them
+ITEMS, FOR_ONE, LISTERS = 8192, 128, 12
 
 
 def some(count=STATIONS):
@@ -112,6 +123,34 @@ def over_pipes(place, dice, stations, count):
         talk_at_once(place, program, stations, dice, count)
         finish(program, status_of(stations))
     judge(place, stations)
+
+
+def what_waits_at_each(place):
+    """Any station may ask it of each: a radio is at the first, one at the second with a message and a copy, and one is absent. Then the
+    first radio moves."""
+    formats(place, STATIONS, SHORTEST)
+    first, second = some(2)
+    own = 'item 8 234-14-2001 m 234-14-2003 7 3720 48:820407014849'
+    others = ('item 6 234-14-2002 m 234-14-2001 5 3700 48:820405014849', 'item 9 234-14-2002 m 234-14-2001 8 3730 48:820408014849 234-14-1000')
+    said = [(first, b'1 0 ' + RULE), (first, b'2 10 mm 234-14-2001 7 10:260'), (first, b'3 10 mm 234-14-2003 7 10:260'),
+            (second, b'1 20 mm 234-14-2002 8 10:260'), (second, b'2 30 mm 234-14-2002 8 60:7380480A00007D0'),
+            (first, b'4 100 sds 234-14-2001 234-14-2002 48:820405014849'), (first, b'5 110 sds 234-14-2001 234-14-2003 48:820406014849'),
+            (first, b'6 120 sds 234-14-2003 234-14-2001 48:820407014849'), (first, b'7 130 gsds 234-14-2001 234-14-1000 48:820408014849'),
+            (first, b'8 140 mm 234-14-2003 7 5:10')]
+    asked = (1, [own]), (2, others), (3, []), (0, [])
+    moved = (1, []), (2, [others[0], own, others[1]])
+    with serving_pipes(place, 2) as program:
+        for station in first, second:
+            station.connect_pipes(place, program)
+        for more, listed in (said, asked), ([(second, b'3 200 mm 234-14-2001 9 10:200')], moved):
+            compare('accepted', [station.ask(line)[0].split(' ')[1] for station, line in more], ['ok'] * len(more))
+            for station in first, second:
+                for number, items in listed:
+                    compare(f'what waits at {number}', station.ask(b'waiting %d' % number), [f'waiting {number} {len(items)}', *items])
+        for station in first, second:
+            station.end()
+        finish(program, 0)
+    judge(place, [first, second])
 
 
 def nobody_at_a_pipe(place, dice):
@@ -292,6 +331,102 @@ def orders_on_a_failed_disk(place):
             finish(program, *WHEN_BROKEN)
 
 
+# The figures of the service
+
+Figures = collections.namedtuple('Figures', 'service stations')
+
+
+def figures_told(station):
+    """The figures, as this station is answered them once the flusher has nothing to do, in their form."""
+    time.sleep(0.1)
+    told = station.ask(b'service')
+    compare('the form', is_service(told), True)
+    words = [line.split(' ') for line in told[1:]]
+    service = {name: int(number) for name, number in words[:6]}
+    return Figures(service, [dict(zip(line[2::2], [*map(int, line[3:-1:2]), line[-1]])) for line in words[6:]])
+
+
+def on_the_disk(place):
+    """Epoch and free sectors, as the independent reading has them."""
+    words = figures(place.image()).split(' ')
+    return {name: int(words[words.index(name) + 1]) for name in ('epoch', 'free')}
+
+
+def syncs_in(made):
+    return sum(done.kind in 'sa' for done in made.record())
+
+
+def figures_of_two(place):
+    """Each station's are its own: a silent line and a bad one count as lines, an order that is forbidden is refused. Those of the service
+    are as the record of the calls and the disk have them, before and after checkpoints."""
+    formats(place, STATIONS, SHORTEST)
+    first, second = some(2)
+    with recorder(place) as made, serving_pipes(place, 2, orders=(1,), env=made.environment(files=())) as program:
+        for station in first, second:
+            station.connect_pipes(place, program)
+        for station, said in ((first, [b'1 0 ' + RULE, b'2 10 ' + ATTACH, b'2 10 ' + ATTACH, b'1 0 expire', b'# a remark', b'', b'x', b'count']),
+                              (second, [b'1 0 expire', b'1 0 sds 234-14-9 234-14-2001 48:820405014849', b'1 10 ' + ATTACH, b'station', b'1 0 mark'])):
+            station.ask_all(said)
+        told = figures_told(second)
+        of_first = {'lines': 8, 'accepted': 2, 'refused': 1, 'kept': 1, 'waits': 'no'}
+        compare('the stations', told.stations, [of_first, {'lines': 6, 'accepted': 1, 'refused': 2, 'kept': 0, 'waits': 'no'}])
+        wanted = {'commands': 3, 'syncs': syncs_in(made), 'checkpoints': 0, **on_the_disk(place)}
+        compare('the service', {**told.service, **wanted}, told.service)
+        compare(f'{told.service["rounds"]} rounds', told.service['rounds'] >= 5, True)
+        first.ask_all(commands(3, 100))
+        again = figures_told(first)
+        compare('the stations', again.stations, [{**of_first, 'lines': 109, 'accepted': 102}, told.stations[1]])
+        now = on_the_disk(place)
+        compare(f'epoch {now["epoch"]}', now['epoch'] > 2, True)
+        wanted = {'commands': 103, 'syncs': syncs_in(made), 'checkpoints': now['epoch'] - 1, **now}
+        compare('the service', {**again.service, **wanted}, again.service)
+        compare('rounds', again.service['rounds'] >= told.service['rounds'] + 100, True)
+        for station in first, second:
+            station.end()
+        finish(program, 1)
+    judge(place, [first, second], {1})
+
+
+def figures_after_a_start(place):
+    """They begin anew with the service, the epoch goes on."""
+    formats(place, STATIONS, SHORTEST)
+    place.write('a.txt', data_of(commands(1, 100)))
+    place.gives(['serve', DISK, 'a.txt', '/dev/null'], 0)
+    there = on_the_disk(place)
+    station = Station(1)
+    with serving_pipes(place, 1) as program:
+        station.connect_pipes(place, program)
+        told = figures_told(station)
+        compare('the service', {**told.service, 'commands': 0, 'checkpoints': 0, **there}, told.service)
+        compare('the station', told.stations, [{'lines': 1, 'accepted': 0, 'refused': 0, 'kept': 0, 'waits': 'no'}])
+        station.end()
+        finish(program, 0)
+
+
+def figures_while_a_sync_hangs(place):
+    """A station whose command is not on the disk yet waits; another one is told so."""
+    formats(place, STATIONS, SHORTEST)
+    first, second = some(2)
+    hangs = place.path('hangs')
+    with preloading.library(SLOW) as made, serving_pipes(place, 2, env=preloading.environment(made, HANGS=hangs)) as program:
+        for station in first, second:
+            station.connect_pipes(place, program)
+        compare('the answer', first.ask(b'1 0 expire'), ['1 ok 1 -'])
+        hangs.touch()
+        first.send(b'2 0 expire')
+        told = figures_told(second)
+        compare('who waits', [(one['waits'], one['accepted']) for one in told.stations], [('yes', 1), ('no', 0)])
+        compare('commands', told.service['commands'], 1)
+        hangs.unlink()
+        compare('the answer', first.answer(b'2 0 expire'), ['2 ok 2 -'])
+        told = figures_told(second)
+        compare('who waits', [(one['waits'], one['accepted']) for one in told.stations], [('no', 2), ('no', 0)])
+        compare('commands', told.service['commands'], 2)
+        for station in first, second:
+            station.end()
+        finish(program, 0)
+
+
 # Refused before a line is served
 
 def refuses(place, words, status, fault):
@@ -337,8 +472,9 @@ def a_disk_that_is_served(place):
 def no_memory(place):
     place.format()
     with refusing.library() as made:
-        for words in ['serve', DISK], ['serve', DISK, 'a.txt', 'a.out']:
+        for words in ['serve', DISK], ['serve', DISK, 'a.txt', 'a.out'], ['serve', '--stop-at-fault', DISK]:
             place.gives(words, 5, err=b'fault: memory\n', env=refusing.environment(made, 1))
+        place.gives(['serve', '--stop-at-fault', DISK], 5, err=b'fault: memory\n', env=refusing.environment(made, 0, thread=1))
 
 
 # A station's fault
@@ -470,6 +606,99 @@ def faults_of_the_device(place, made, dice, count):
         count.case(f'calls from {number} on fail', functools.partial(the_device_fails, ALWAYS=1), place, made, dice, number)
 
 
+def ends_at_once(place):
+    """With --stop-at-fault the program ends then, though all stations wait in the middle of a line or a pipe."""
+    formats(place, STATIONS, SHORTEST)
+    first, second = some(2)
+    make_pipes(place, 3)
+    with recorder(place) as made:
+        opening = made.does(['show', DISK, 'count'], 0, b'count 0\n')
+        env = made.environment(fails=len(opening) + 1, files=[], ALWAYS=1)
+        with serving(place, ['serve', '--stop-at-fault', DISK, *all_names(3)], env=env) as program:
+            for station in first, second:
+                station.connect_pipes(place, program)
+            compare('the answer', second.ask(b'count'), ['count 0'])
+            second.send(b'cou')
+            first.send(b'1 0 expire')
+            finish(program, *WHEN_BROKEN)
+            for station in first, second:
+                station.leave()
+
+
+def ends_as_without(place):
+    """Where the device does not fail, --stop-at-fault changes nothing."""
+    place.format()
+    place.write('a.txt', FIRST)
+    place.gives(['serve', '--stop-at-fault', DISK], 0, FIRST_TOLD, data=FIRST, stdin=subprocess.PIPE)
+    place.gives(['serve', '--stop-at-fault', DISK, '-', '-', 'a.txt', '/dev/stdout'], 0, text(['1 ok 3 -', '2 ok 4 8:56']))
+    place.gives(['serve', DISK, '--stop-at-fault'], 1, text(['line 1 bad syntax']), data=b'x\n', stdin=subprocess.PIPE)
+    place.gives(['serve', '--stop-at-fault', DISK, 'no.txt', 'a.out'], 4, err=file_fault('no.txt'))
+    refuses(place, ['--stop-at-fault', DISK, 'a.txt', '-'], 2, b'fault: only one of IN and OUT is -\n')
+    refuses(place, ['--stop-at-fault', 'a.txt', 'a.txt', 'a.out'], 5, b'fault: unformatted\n')
+
+
+# The log
+
+def logs(place, words, status, lines, **how):
+    """Serves with --log: the first line on standard error, and then in their order those of each station, and the other ones."""
+    first, *of_stations = lines
+    with serving(place, ['serve', '--log', DISK, *words], **how) as program:
+        said = ends_with(program, status)
+    compare('the first line', said[0], first)
+    for start in {line.split(' ')[1] for line in of_stations}:
+        compare(f'lines of {start}', [line for line in said[1:] if line.split(' ')[1] == start], [line for line in of_stations if line.split(' ')[1] == start])
+    compare('how many', len(said), len(lines))
+
+
+def ends_with(program, status):
+    """The lines on standard error of the program, which ends so."""
+    said = program.communicate(timeout=SECONDS)[1].decode()
+    compare('status', program.returncode, status)
+    compare('the end of the last line', said[-1:], '\n')
+    return said.splitlines()
+
+
+def logged(place):
+    """Starts and ends of stations are lines on standard error, and a fault comes before the end. Who is left out has none."""
+    place.format()
+    for name, data in ('a.txt', FIRST), ('b.txt', b''):
+        place.write(name, data)
+    place.gives(['serve', '--log', DISK], 0, FIRST_TOLD, data=FIRST, stdin=subprocess.PIPE,
+                err=b'serving 1 station, count 0\nstation 1 serves - -\nstation 1 ended\n')
+    logs(place, ['a.txt', 'a.out', '-', '-', 'b.txt', 'b.out'], 0, [
+        'serving 2 stations, count 2', 'station 1 serves a.txt a.out', 'station 1 ended', 'station 3 serves b.txt b.out', 'station 3 ended'])
+    place.gives(['serve', '--log', DISK, 'no.txt', 'a.out'], 4, err=b'serving 1 station, count 2\nfault: file no.txt\nstation 1 ended\n')
+    place.gives(['serve', '--log', DISK, 'a.txt', '/dev/full'], 4,
+                err=b'serving 1 station, count 2\nstation 1 serves a.txt /dev/full\nfault: file /dev/full\nstation 1 ended\n')
+    place.gives(['serve', '--log', DISK, '-', '-'], 0, err=b'serving 0 stations, count 2\n')
+    refuses(place, ['--log', 'a.txt', 'a.txt', 'a.out'], 5, b'fault: unformatted\n')
+
+
+def logged_as_it_happens(place):
+    """A station that still waits for the other end of its pipe is not served yet; one whose line ended has ended, while others go on."""
+    formats(place, STATIONS, SHORTEST)
+    make_pipes(place, 2)
+    first, second = some(2)
+    with serving(place, ['serve', '--log', DISK, *all_names(2)]) as program:
+        receives(program.stderr, b'serving 2 stations, count 0\n')
+        first.connect_pipes(place, program)
+        receives(program.stderr, b'station 1 serves %s %s\n' % tuple(name.encode() for name in names_of(1)))
+        second.connect_pipes(place, program)
+        receives(program.stderr, b'station 2 serves %s %s\n' % tuple(name.encode() for name in names_of(2)))
+        first.end()
+        receives(program.stderr, b'station 1 ended\n')
+        compare('the answer', second.ask(b'1 0 expire'), ['1 ok 1 -'])
+        second.end()
+        finish(program, 0, b'station 2 ended\n')
+
+
+def a_log_that_fails(place):
+    """It changes nothing else."""
+    place.format()
+    shell = ['bash', '-c', 'exec "$@" 2>/dev/full', '-', *place.command, 'serve', '--log', DISK]
+    gives(shell, 0, FIRST_TOLD, data=FIRST, cwd=place.folder)
+
+
 # A stalled reader
 
 def queries_mostly(number):
@@ -512,6 +741,89 @@ def a_stalled_reader(place, line):
             station.end()
         finish(program, 0)
     judge(place, [first, second])
+
+
+# Listings that nobody reads
+
+def with_many_items(place):
+    """A disk with a register whose items are a long listing; what answers `items`."""
+    register = reading.Register({'rules': 1, 'radios': 1, 'mail': ITEMS, 'stations': LISTERS})
+    register.count = ITEMS
+    for k in range(ITEMS):
+        key = registers.identity(k // FOR_ONE), registers.identity(ITEMS), k % FOR_ONE, b'm'
+        register.mail[key] = reading.Item(k + 1, LATEST, registers.message(k % FOR_ONE, '01' * 1011 + '1'), None)
+    image = [label(**register.limits), OPEN, CLOSED, *rows(1, register)]
+    size = 3 + 2 * (1 + sum(register.limits.values())) + 2 * 39
+    place.put(image + [bytes(SECTOR)] * (size - len(image)))
+    return reading.answer(register, 1, b'items')
+
+
+def unread_listings(place):
+    """One listing that nobody reads keeps no other station from its own. Of many, two are kept: the others are out of memory, until these
+    are read. What is kept is whole; one line is answered all the while."""
+    listing = with_many_items(place)
+    stations, size = some(LISTERS), len(text(listing)) // 1024
+    with serving_pipes(place, LISTERS) as program:
+        for station in stations:
+            station.connect_pipes(place, program)
+        before = peak(program)
+        stations[0].send(b'items')
+        compare('the first line', stations[0].receive(), listing[0])
+        compare('the listing beside an unread one', stations[1].ask(b'items') == listing, True)
+        compare('a line after a listing', stations[1].ask(b'count'), [f'count {ITEMS}'])
+        for station in stations[1:]:
+            station.send(b'items')
+        told = [station.receive() for station in stations[1:]]
+        kept = [station for station, line in zip(stations[1:], told) if line == listing[0]]
+        full = [station for station in stations[1:] if station not in kept]
+        compare('how many are kept beside the first', (len(kept), len(full)), (1, LISTERS - 2))
+        compare('what others are told', {line.split(' ', 2)[2] for line in told if line != listing[0]}, {'no memory'})
+        compare(f'{peak(program) - before} KiB more of memory', peak(program) <= before + 4 * size, True)
+        for station in full:
+            compare('a line of a station without its listing', station.ask(b'count'), [f'count {ITEMS}'])
+        for station in [stations[0], *kept]:
+            compare('an unread listing', [station.receive() for _ in listing[1:]] == listing[1:], True)
+        for station in full:
+            compare('a listing once others are read', station.ask(b'items') == listing, True)
+        compare(f'{peak(program) - before} KiB more of memory in the end', peak(program) <= before + 4 * size, True)
+        for station in stations:
+            station.end()
+        finish(program, 1)
+
+
+def first_line_of(station, listing):
+    """For how many seconds the station waits for the first line of a listing."""
+    start = time.monotonic()
+    station.send(b'items')
+    compare('the first line', station.receive(), listing[0])
+    return time.monotonic() - start
+
+
+def rest_of(station, listing):
+    compare('the rest of a listing', [station.receive() for _ in listing[1:]] == listing[1:], True)
+
+
+def rests_after_a_listing(place):
+    """A station alone never waits to list. Beside others it waits after another's long listing for several times as long as that took."""
+    listing, alone, (first, second) = with_many_items(place), [], some(2)
+    with serving_pipes(place, 1) as program:
+        one = Station(1).connect_pipes(place, program)
+        for _ in range(5):
+            alone.append(first_line_of(one, listing))
+            rest_of(one, listing)
+        one.end()
+        finish(program, 0)
+    compare(f'{max(alone):.3f} and {min(alone):.3f} seconds alone', max(alone) < 4 * min(alone) + 0.5, True)
+    with serving_pipes(place, 2) as program:
+        for station in first, second:
+            station.connect_pipes(place, program)
+        first_line_of(first, listing)
+        waited = first_line_of(second, listing)
+        compare(f'{waited:.3f} seconds after another, {min(alone):.3f} alone', waited > min(4 * min(alone), 0.5), True)
+        for station in first, second:
+            rest_of(station, listing)
+            station.end()
+        finish(program, 0)
 
 
 # Signals
@@ -674,6 +986,7 @@ def answered(count, words, dice):
     for number in 1, 2, 4:
         in_a_place(count, words, f'{number} stations over pipes', over_pipes, dice, some(number), words.lines)
     in_a_place(count, words, '4 stations on a device', over_pipes, dice, some(), words.lines, folder=None)
+    in_a_place(count, words, 'what_waits_at_each', what_waits_at_each)
     in_a_place(count, words, 'nobody_at_a_pipe', nobody_at_a_pipe, dice)
 
 
@@ -681,6 +994,8 @@ def chosen(count, words, dice):
     for left in {1}, {2}, {STATIONS}, {1, 2}, {2, 3}, {1, 3}, {1, 2, 3}, {2, 3, 4}:
         in_a_place(count, words, f'{left} left out', left_out, dice, words.lines // 4, left)
     for case in half_left_out, all_left_out, served_then_left_out, orders_forbidden, orders_of_nobody, orders_on_a_failed_disk:
+        in_a_place(count, words, case.__name__, case)
+    for case in figures_of_two, figures_after_a_start, figures_while_a_sync_hangs:
         in_a_place(count, words, case.__name__, case)
     for orders in (1,), (3,), (2, 4), (1, 2, 3, 4):
         in_a_place(count, words, f'orders of {orders}', orders_of_some, dice, words.lines, orders)
@@ -692,6 +1007,9 @@ def faulty(count, words, dice):
     for restore in True, False:
         in_a_place(count, words, f'a reader goes, SIGPIPE at its default: {restore}', a_reader_goes, dice, restore)
     in_a_place(count, words, 'a failed device is reported at once', is_told_at_once)
+    in_a_place(count, words, 'a failed device ends the program', ends_at_once)
+    for case in ends_as_without, logged, logged_as_it_happens, a_log_that_fails:
+        in_a_place(count, words, case.__name__, case)
     with place(words.program, MEMORY) as there, recorder(there) as made:
         count.case('as_they_come', as_they_come, there, made)
         faults_of_the_device(there, made, dice, count)
@@ -700,6 +1018,8 @@ def faulty(count, words, dice):
 def waiting(count, words, dice):
     for line in a_command, queries_mostly:
         in_a_place(count, words, f'a_stalled_reader, {line.__name__}', a_stalled_reader, line)
+    in_a_place(count, words, 'unread_listings', unread_listings)
+    in_a_place(count, words, 'rests_after_a_listing', rests_after_a_listing)
     for number in signal.SIGTERM, signal.SIGINT:
         in_a_place(count, words, f'ended by {number.name}', ended_by, dice, number)
         in_a_place(count, words, f'ended by {number.name} while it waits', ended_while_it_waits, number)

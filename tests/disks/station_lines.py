@@ -6,7 +6,7 @@ from disk_files import LINES, text
 from reading_disks import copied
 from streams import RULE_BODY, demand, groups
 
-OTHERS = ['count', 'where 234-14-2001', 'mail 234-14-2002', 'rules', 'radios', 'radios 234-14-2000/46', 'items', 'due 300', 'last 1', 'last 3', 'room',
+OTHERS = ['count', 'where 234-14-2001', 'mail 234-14-2002', 'rules', 'radios', 'radios 234-14-2000/46', 'items', 'due 300', 'waiting 1', 'waiting 2', 'last 1', 'last 3', 'room', 'dump',
           'mark here', 'mark', 'station', '# a remark', '', 'no such', 'where 1-2', '0 0 expire']
 
 

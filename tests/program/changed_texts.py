@@ -114,6 +114,18 @@ def blank_lines(lines, dice):
     yield from (ended(lines) + blank for blank in (b'\n', b' ', b'\0', b'#\n', b'\xef\xbb\xbf'))
 
 
+def counted(lines, dice):
+    """A line that states how many lines follow, or one like it, before each line."""
+    for at, line in enumerate(lines):
+        for number in str(len(lines)).encode(), b'0', b'18446744073709551615', b'18446744073709551616', b'012', b'', b'1 ', b'x', b'1 2':
+            yield with_line(lines, at, b'dump ' + number, line)
+    count = b'dump %d' % len(lines)
+    yield from (ended([count, *others]) for others in ([count, *lines], lines[:-1], [*lines, lines[-1]], lines + lines, [*lines, count, *lines]))
+    yield ended([count, *lines]).removesuffix(b'\n')
+    yield from (ended([before, *lines]) for before in (b'dump', b'dumps 1', b'Dump 1', b' dump 1', b'dump  1', b'dump\t1'))
+    yield from (b'dump 12', b'dump 12\n')
+
+
 def cases_changed(lines, dice):
     """Upper and lower case, of a line, a letter or all."""
     for at, line in enumerate(lines):
@@ -160,8 +172,8 @@ def many_changes(lines, dice):
         yield ended(now)
 
 
-KINDS = [lines_changed, words_changed, words_moved, bytes_removed, bytes_added, bytes_changed, cut, ends_of_lines, blank_lines, cases_changed,
-         long_lines, groups_of_a_radio, doubled, many_changes]
+KINDS = [lines_changed, words_changed, words_moved, bytes_removed, bytes_added, bytes_changed, cut, ends_of_lines, blank_lines, counted,
+         cases_changed, long_lines, groups_of_a_radio, doubled, many_changes]
 
 
 def changed(kind, text=TEXT):

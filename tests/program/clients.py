@@ -7,6 +7,7 @@ Usage: tests/run clients PROGRAM [--lines N] [--stops N] [--seed N] (the program
 import contextlib
 import functools
 import importlib.util
+import io
 import os
 import pty
 import random
@@ -140,6 +141,15 @@ def to_a_group(there):
         compare('accepted', called(there, 'group-message', FROM, GROUP, 'ALL'), '5 ok 5 -\n')
         said = called(there, 'items').split('\n')
         compare('its copy', (said[0], said[1].split(' ')[2], said[1].split(' ')[-1], desk.text_in(said[1].split(' ')[-2])), ('items 1', TO, GROUP, 'ALL'))
+        compare('what is to be delivered here', called(there, 'waiting', '1').split('\n'), ['waiting 1 1', *said[1:]])
+        compare('and elsewhere', called(there, 'waiting', '2'), 'waiting 2 0\n')
+        figures = called(there, 'service').split('\n')
+        compare('figures, to their end', ([it.split(' ')[0] for it in figures[:3]], len(figures)), (['service', 'rounds', 'commands'], int(figures[0].split(' ')[1]) + 2))
+        with client(there) as one:
+            shown = desk.Desk(one, False)
+            with contextlib.redirect_stdout(io.StringIO()) as told:
+                shown.take(['waiting'])
+            compare('in words', told.getvalue().split(' ')[:3], ['waiting', '1:', '1\n5'])
 
 
 def references_that_are_free(there):

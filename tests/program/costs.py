@@ -31,7 +31,7 @@ MOST_TIMES, MOST_PER_CHECKPOINT, LINES_EACH = 4, 64 + 6 * FULL, 512
 MOST_BYTES, MOST_HELD = 4 * 1024, 128
 # What comes after each command that is committed alone, and how many such lines are served
 ALONE, ALONE_EACH = b'\ncount\n', 32
-LISTINGS, MOST_PER_LISTING = ('rules', 'radios', 'radios 234-14-0/24', 'items', 'due 4294967295', 'last 1', 'room'), 40
+LISTINGS, MOST_PER_LISTING = ('rules', 'radios', 'radios 234-14-0/24', 'items', 'due 4294967295', 'waiting 1', 'last 1', 'room', 'dump'), 40
 NEEDS_NOTHING = 'mark ' + 'x' * 32, 'station', '1 0 expire', '1 0 rule 234-14-0/24 1 99 1 3600'
 RADIO, ATTACH = '234-14-{}', '10:260'
 

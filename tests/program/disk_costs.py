@@ -15,7 +15,7 @@ from running import Differs, compare
 SMALL, LARGE, MOST_TIMES = 256, 4096, 20
 # Of commits, whose waiting threads count too
 MOST_BESIDE = 45
-LISTINGS = 'rules', 'radios', 'radios 0-0-0/1', 'items', 'due 4294967295'
+LISTINGS = 'rules', 'radios', 'radios 0-0-0/1', 'items', 'due 4294967295', 'waiting 1', 'dump'
 
 
 def under_valgrind(program):

@@ -38,8 +38,18 @@ STREAMS = lines.KINDS + locations.KINDS + groups.KINDS + messages.KINDS + group_
 # How many streams of a kind are run; and the bytes of the longest one
 STREAMS_OF_A_KIND, LONGEST_STREAM = 2, 100_000
 LARGER = {'rules': 20, 'radios': 40, 'mail': 300, 'stations': 7}
+FIRST = TEXT.splitlines()[0].decode()
 # Lines of TEXT, by number, with others in their place; and the line and the cause of the fault, None where the text is loaded
 FAULTS = [
+    (1, f'dump 12\n{FIRST}', None, None),
+    (1, f'dump 11\n{FIRST}', 3, PLACE),
+    (1, f'dump 13\n{FIRST}', 3, PLACE),
+    (1, f'dump 0\n{FIRST}', 3, PLACE),
+    (1, f'dump 18446744073709551615\n{FIRST}', 3, PLACE),
+    (1, f'dump 18446744073709551616\n{FIRST}', 1, FIRST_LINE),
+    (1, f'dump 12\ndump 12\n{FIRST}', 2, FIRST_LINE),
+    (1, f'dump 11\ndump 12\n{FIRST}', 2, FIRST_LINE),
+    (1, f'{FIRST}\ndump 12', 2, SPELLING),
     (1, 'tetra-switch register 1 rules 0 radios 4294967295 items 3 stations 007', 1, FIRST_LINE),
     (1, 'tetra-switch register 1 rules 0 radios 4294967296 items 3 stations 7', 1, FIRST_LINE),
     (1, 'tetra-switch register 2 rules 16 radios 16 items 256 stations 4', 1, FIRST_LINE),
@@ -152,12 +162,19 @@ def larger(limits):
     return {kind: limit + LARGER[kind] for kind, limit in limits.items()}
 
 
+def answer_to_dump(register):
+    """What a station gets, in bytes."""
+    return text(reading.answer(register, 1, b'dump'))
+
+
 def dumped_and_loaded(place, register, dice):
-    """A disk with this register in either layout is dumped, and the text loaded under the same limits and under greater ones."""
+    """A disk with this register in either layout is dumped, and the text loaded under the same limits and under greater ones, as is
+    the answer to the listing `dump`."""
     place.put(image_of(register, dice.randrange(2), dice.choice([1, 2, 2 ** 62]), dice.choice(list(FORMS))))
     dumps(place, register)
     for limits in register.limits, larger(register.limits):
         dumps(place, loads(place, text_of(register), limits))
+        dumps(place, loads(place, answer_to_dump(register), limits))
 
 
 def under_less(place, register, dice):

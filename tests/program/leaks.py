@@ -71,7 +71,7 @@ def on_a_damaged_disk(ends, dice):
     good = image_of(register_in(TEXT, LIMITS))
     for at in (1, *range(3, 14)):
         ends.there.put([*good[:at], bytes(SECTOR), *good[at + 1:]])
-        for words in ['show', DISK, 'count'], ['run', DISK, LINES], ['dump', DISK], ['check', DISK]:
+        for words in ['show', DISK, 'count'], ['run', DISK, LINES], ['dump', DISK], ['check', DISK], ['check', '--rest', DISK]:
             ends.with_none(words, 0, (4, 5))
 
 
@@ -79,7 +79,7 @@ def other_words(ends, dice):
     ready(ends.there, TEXT)
     ends.with_none(LOAD)
     shown = [['show', DISK, *query.split()] for query in ('disk', 'items', 'radios', 'groups 234-14-2001')]
-    for words in ['dump', DISK], ['check', DISK], *shown:
+    for words in ['dump', DISK], ['check', DISK], ['check', '--rest', DISK], *shown:
         ends.with_none(words)
     for words, status in ((LOAD, 4), (['format', TOML, DISK], 4), (['show', DISK, 'x'], 1), (['run', DISK, 'no.txt'], 4), (['--help'], 0),
                           (['no'], 2)):

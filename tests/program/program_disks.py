@@ -86,7 +86,8 @@ def what_is_shown(place):
                 (['rules'], 0, b'rules 0\n'), (['radios'], 0, b'radios 0\n'), (['radios', '1-2-3/48'], 0, b'radios 1-2-3/48 0\n'),
                 (['mark', 'here'], 1, b'line 1 bad syntax\n'), (['station'], 1, b'line 1 bad syntax\n'),
                 (['radios', ''], 1, b'line 1 bad value\n'), (['items'], 0, b'items 0\n'), (['due', '7'], 0, b'due 7 0\n'),
-                (['due', '4294967296'], 1, b'line 1 bad value\n'), (['last', '1'], 0, b'last 1 none\n'), (['rules', 'x'], 1, b'line 1 bad syntax\n'),
+                (['due', '4294967296'], 1, b'line 1 bad value\n'), (['waiting', '1'], 0, b'waiting 1 0\n'),
+                (['waiting', '65536'], 1, b'line 1 bad value\n'), (['last', '1'], 0, b'last 1 none\n'), (['rules', 'x'], 1, b'line 1 bad syntax\n'),
                 (['room'], 0, b'room rules 0/16 radios 0/16 items 0/256 stations 0/4 fullest none\n')]:
             place.gives(['show', 'd.img', *words], status, out)
 

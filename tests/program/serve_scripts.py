@@ -17,6 +17,7 @@ import time
 import tty
 
 import reading
+import refusing
 from base_stations import STATIONS, Station, at_once, ends_by, finish, judge, names_of, on_streams, status_of
 from disk_files import DISK, Place, place
 from many_files import SHORTEST, formats
@@ -203,9 +204,27 @@ class Service:
         for command in commands_in(self.unit, 'ExecStartPre'):
             subprocess.run(command, check=True, cwd=self.run, env={**self.env, **env}, preexec_fn=lambda: os.umask(0o077))
 
+    @contextlib.contextmanager
     def started(self):
+        """Its command, in a group of processes, all ended in any case."""
         [command] = commands_in(self.unit, 'ExecStart')
-        return started(command, stdin=subprocess.DEVNULL, stdout=subprocess.PIPE, cwd=self.run, env=self.env)
+        with started(command, stdin=subprocess.DEVNULL, cwd=self.run, env=self.env, start_new_session=True) as program:
+            try:
+                yield program
+            finally:
+                with contextlib.suppress(ProcessLookupError):
+                    os.killpg(program.pid, signal.SIGKILL)
+
+    def ends(self, program):
+        """As systemd ends it: SIGTERM comes to all its processes. None is left of them, so nobody holds the disk."""
+        os.killpg(program.pid, signal.SIGTERM)
+        compare('status', program.wait(SECONDS), -signal.SIGTERM)
+        waits(lambda: subprocess.run(['flock', '-n', self.disk.path('switch.disk'), 'true']).returncode == 0)
+
+    def says(self, stations):
+        """What it reports as it starts, each station's pipes in any order."""
+        names = [f'station {number} serves {" ".join(names_of(number))}' for number in range(1, stations + 1)]
+        return {f'serving {stations} stations, count 0', *names}
 
     def expires(self):
         """What the timer does."""
@@ -235,7 +254,8 @@ def its_commands(place, dice):
             compare('the timer', service.expires(), b'%d ok %d -\n' % (number, count + number))
         asked = subprocess.run([DESK, service.run, '3', 'count'], stdin=subprocess.DEVNULL, capture_output=True, timeout=SECONDS).stdout
         compare('the desk', asked, b'count %d\n' % (count + 2))
-        ends_by(program, signal.SIGTERM)
+        service.ends(program)
+        compare('standard error', set(program.stderr.read().decode().splitlines()), service.says(STATIONS))
         for station in stations:
             station.leave()
     service.disk.path('switch.disk').rename(service.disk.path())
@@ -261,11 +281,17 @@ def sixty_four(place, dice):
             accepted, number = told[1].split(' ')[2], station.number
             compare(f'station {number}', told, [f'station {number}', f'2 ok {accepted} 8:56', f'last {number} 2 {accepted} 8:56'])
             station.leave()
-        ends_by(program, signal.SIGTERM)
+        service.ends(program)
+
+
+def restarts_after(service, status):
+    """Whether systemd starts the unit again after this exit status."""
+    assert 'Restart=on-failure\n' in service.unit
+    return status and str(status) not in re.search('^RestartPreventExitStatus=(.*)$', service.unit, re.M)[1].split(' ')
 
 
 def a_device_that_fails(place, _):
-    """The unit reports it at once, and fails by the signal after which it is not started again."""
+    """The unit reports it at once, and fails by a status after which it is not started again."""
     service = Service(place, STATIONS)
     service.makes_pipes()
     with recorder(service.disk) as made:
@@ -275,9 +301,41 @@ def a_device_that_fails(place, _):
             [station] = connected(service.pipes, program, (3,))
             station.send(b'1 0 expire')
             waits(lambda: program.poll() is not None)
-            compare('its end', (program.returncode, program.stderr.read()), (-signal.SIGUSR1, b'fault: device\n'))
+            said = program.stderr.read().decode().splitlines()
+            compare('its end', (program.returncode, said[-1], set(said[:-1])), (5, 'fault: device', service.says(STATIONS)))
             station.leave()
-    compare('it is not started again', 'SIGUSR1' in re.search('^RestartPreventExitStatus=(.*)$', service.unit, re.M)[1].split(' '), True)
+    compare('it is started again', restarts_after(service, 5), False)
+
+
+def no_memory(place, _):
+    """The unit is started again, but not on a disk that can't be used."""
+    service = Service(place, STATIONS)
+    service.makes_pipes()
+    with refusing.library() as made:
+        place.write('refused', f'#!/bin/sh\nLD_PRELOAD={made} REFUSED=1 REFUSALS=1 exec {place.command[0]} "$@"\n'.encode())
+        place.path('refused').chmod(0o755)
+        unit = service.unit
+        service.unit = unit.replace(place.command[0], str(place.path('refused')))
+        with service.started() as program:
+            status = program.wait(SECONDS)
+            compare('its end', (program.stderr.read(), restarts_after(service, status)), (b'fault: memory\n', True))
+    service.unit = unit
+    service.disk.write('switch.disk', b'fault: memory\n')
+    with service.started() as program:
+        compare('its end', (program.wait(SECONDS), program.stderr.read()), (5, b'fault: unformatted\n'))
+
+
+def ended_from_outside(place, _):
+    """Who ends the program by a signal ends the unit by it."""
+    service = Service(place, STATIONS)
+    service.makes_pipes()
+    for number in signal.SIGTERM, signal.SIGKILL:
+        with service.started() as program:
+            [station] = connected(service.pipes, program, (3,))
+            station.ask(b'count')
+            subprocess.run(['pkill', f'-{number}', '-P', str(program.pid)], check=True)
+            compare('status', program.wait(SECONDS), -number)
+            station.leave()
 
 
 def orders_of_the_desk(place, _):
@@ -295,7 +353,7 @@ def orders_of_the_desk(place, _):
             told = [station.ask(b'%d 0 expire' % number)[0].split(' ')[1] for station in stations]
             for station in stations:
                 station.leave()
-            ends_by(program, signal.SIGTERM)
+            service.ends(program)
         compare(f'answers with orders of {orders!r}', told, ['ok' if not orders or str(one.number) in orders else 'no' for one in stations])
 
 
@@ -317,7 +375,8 @@ def main():
     print(f'seed {words.seed}', flush=True)
     dice, count = random.Random(words.seed), Count()
     cases = [(over_pipes,), (as_serve_sh_shows,), (over_a_socket, 'socat'), (over_a_serial_line, 'socat'), (verified, 'systemd-analyze'),
-             (its_commands,), (sixty_four,), (orders_of_the_desk,), (a_device_that_fails,), (groups_of_their_own,)]
+             (its_commands,), (sixty_four,), (orders_of_the_desk,), (a_device_that_fails,), (no_memory,), (ended_from_outside, 'pkill'),
+             (groups_of_their_own,)]
     for case, *needed in cases:
         if count.has(case.__name__, *needed):
             with place(words.program) as there:

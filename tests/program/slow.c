@@ -1,5 +1,6 @@
-/* Preloaded into a program by progress.py. Before the read of the number AT, from 1, that names its place in the file, it waits for
-   1.1 seconds. Where SYNCS is set it waits in each of the first SYNCS syncs for a fifth of a second, and makes none. */
+/* Preloaded into a program by progress.py and serve.py. Before the read of the number AT, from 1, that names its place in the file, it
+   waits for 1.1 seconds. Where SYNCS is set it waits in each of the first SYNCS syncs for a fifth of a second, and makes none. Where
+   HANGS is set each sync waits for as long as the file of that name exists. */
 #define _GNU_SOURCE
 #include <stdlib.h>
 #include <sys/syscall.h>
@@ -27,6 +28,8 @@ ssize_t pread64(int fd, void *bytes, size_t length, off_t offset)
 int fdatasync(int fd)
 {
     static long made;
+    while (getenv("HANGS") && access(getenv("HANGS"), F_OK) == 0)
+        usleep(1000);
     if (!getenv("SYNCS"))
         return syscall(SYS_fdatasync, fd);
     if (++made <= number_of("SYNCS"))

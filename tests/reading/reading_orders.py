@@ -8,10 +8,11 @@ all of its commands that were accepted before the line, and none that was accept
 each line finds prefixes for all lines wherever there are any. Nothing is asked of the prefixes of different stations: their answers
 say nothing of the time."""
 import collections
+import re
 
 import reading
 from reading_disks import copied
-from reading_queries import LISTS, QUERIES
+from reading_queries import LISTS, OF_STATION, PLAIN, QUERIES, is_service
 
 # A line of a station with the lines that answer it; these are None where nothing is known of its answer
 Answered = collections.namedtuple('Answered', 'line told')
@@ -24,7 +25,7 @@ class NoOrder(Exception):
 # Output
 
 def is_query(words):
-    return (words[0], len(words) - 1) in QUERIES
+    return (words[0], len(words) - 1) in {**QUERIES, **PLAIN}
 
 
 def lines_told(line, first):
@@ -53,8 +54,9 @@ def answered(lines, said):
 
 
 def is_title(line):
-    """Whether it begins the answers of a station in what a run prints. The answer to `station` has two words, and names no file."""
-    return line.startswith('station ') and line.count(' ') > 1
+    """Whether it begins the answers of a station in what a run prints. The answer to `station` has two words, and names no file; nor does
+    the line of a station's figures."""
+    return line.startswith('station ') and line.count(' ') > 1 and not re.fullmatch(OF_STATION.format(r'\d+'), line)
 
 
 def parts(out, names):
@@ -137,6 +139,8 @@ def place_of(order, after, station, number, pair):
     if accepted:
         place = accepted_at(order, station, pair.line, after)
         return place if place and order.answers[place - 1] == pair.told else None
+    if pair.line == b'service':
+        return after if is_service(pair.told) else None
     fits = (place for place in range(after, len(order.registers)) if order.told(place, station, number, pair.line) == (pair.told, True))
     return next(fits, None)
 

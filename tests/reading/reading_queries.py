@@ -1,7 +1,9 @@
 """An independent reading of the queries, from docs/formats/lines.md alone: each answers the lines of its answer, of a register as
 reading.py has it and the words after its first. LISTS has the queries whose first line ends in the number of lines that follow it.
-PLAIN has those that ask nothing of the register: they get the number of the station instead."""
+PLAIN has those that ask nothing of the register: they get the number of the station instead. Of the figures of a service only the form is
+known."""
 import collections
+import re
 
 from reading_words import identity, number, prefix, print_bits, print_identity, printable
 
@@ -104,11 +106,23 @@ def due(register, words):
     return counted(f'due {moment}', [item_line(entry, True) for entry in waiting(register, lambda key, item: item.deadline <= moment)])
 
 
+def waiting_at(register, words):
+    """Those for radios that are present at the station."""
+    station = number(words[0], 0, 65535)
+    there = {itsi for itsi, (at, _, present) in register.radios.items() if present and at == station}
+    return counted(f'waiting {station}', [item_line(entry, True) for entry in waiting(register, lambda key, item: key[0] in there)])
+
+
 def room(register, words):
     used = {'rules': register.rules, 'radios': register.radios, 'items': register.mail, 'stations': register.served}
     limits, box = {**register.limits, 'items': register.limits['mail']}, fullest(register)
     parts = [f'{name} {len(held)}/{limits[name]}' for name, held in used.items()]
     return [' '.join(['room', *parts, 'fullest', f'{print_identity(box[0])} {box[1]}/{register.most_items}' if box else 'none'])]
+
+
+def dump(register, words):
+    from reading_texts import text_of
+    return counted('dump', text_of(register).decode().splitlines())
 
 
 # Of no register
@@ -121,8 +135,23 @@ def own_station(station, words):
     return [f'station {station}']
 
 
-PLAIN = {(b'mark', 1): mark, (b'station', 0): own_station}
+def service(station, words):
+    """Where stations are served, the figures of the service are listed (`is_service`)."""
+    return counted('service', [])
+
+
+SERVICE = [rf'{name} (?:0|[1-9]\d*)' for name in ('rounds', 'commands', 'syncs', 'checkpoints', 'epoch', 'free')]
+OF_STATION = r'station {} ' + ' '.join(rf'{name} (?:0|[1-9]\d*)' for name in ('lines', 'accepted', 'refused', 'kept')) + ' waits (?:yes|no)'
+
+
+def is_service(lines):
+    """Whether these lines are figures of a service, in their form, and those of one station or more."""
+    forms = SERVICE + [OF_STATION.format(station) for station in range(1, len(lines) - len(SERVICE))]
+    return len(forms) > len(SERVICE) and re.fullmatch('\n'.join([f'service {len(forms)}', *forms]), '\n'.join(lines), re.ASCII) is not None
+
+
+PLAIN = {(b'mark', 1): mark, (b'station', 0): own_station, (b'service', 0): service}
 QUERIES = {(b'where', 1): where, (b'look', 1): look, (b'groups', 1): groups, (b'members', 1): members, (b'mail', 1): mail, (b'count', 0): total,
-           (b'rules', 0): rules, (b'radios', 0): radios, (b'radios', 1): radios, (b'items', 0): items, (b'due', 1): due, (b'last', 1): last,
-           (b'room', 0): room}
-LISTS = {b'groups', b'members', b'mail', b'rules', b'radios', b'items', b'due'}
+           (b'rules', 0): rules, (b'radios', 0): radios, (b'radios', 1): radios, (b'items', 0): items, (b'due', 1): due,
+           (b'waiting', 1): waiting_at, (b'last', 1): last, (b'room', 0): room, (b'dump', 0): dump}
+LISTS = {b'groups', b'members', b'mail', b'rules', b'radios', b'items', b'due', b'waiting', b'dump', b'service'}

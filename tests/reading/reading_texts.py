@@ -150,6 +150,15 @@ def is_first(line):
     return len(numbers) == len(NAMES) and line == f'{FORM} {numbered(numbers)}'.encode()
 
 
+def stated_in(line):
+    """How many lines follow, if it states that, as the answer to the listing `dump` begins; else None."""
+    word, _, count = line.partition(b' ')
+    try:
+        return below(64, count) if word == b'dump' else None
+    except BadLine:
+        return None
+
+
 # Reading a text
 
 class Loading:
@@ -157,10 +166,14 @@ class Loading:
 
     def __init__(self, limits):
         self.limits, self.is_begun, self.image, self.due = limits, False, None, collections.deque([Header])
+        self.stated = None
 
     def fault(self, line):
         """Takes a line. None, or the cause for which it can't be taken."""
         if not self.is_begun:
+            if self.stated is None and stated_in(line) is not None:
+                self.stated = stated_in(line)
+                return None
             self.is_begun = is_first(line)
             return None if self.is_begun else FIRST_LINE
         row = row_in(line)
@@ -176,6 +189,7 @@ class Loading:
         want(self.due and isinstance(row, self.due.popleft()))
         if not isinstance(row, Header):
             return self.image.put(row)
+        want(self.stated in (None, 2 + sum(row.numbers)))
         self.image = Image(row, self.limits)
         for kind, count in zip(ORDER, row.numbers):
             self.due.extend([kind] * count)

@@ -19,16 +19,17 @@ use Rattle.command_line.specs.declared.request.Request.TheVariants as request
 use Rattle.command_line.specs.declared.request.Refusal.{Refusal}
 use Rattle.command_line.specs.declared.request.Refusal.TheVariants as refusal
 
--- a request, with the texts of its words; `run` and `serve` also have the stations that `--orders` names
+-- a request, with the texts of its words; `run` and `serve` also have the stations that `--orders` names, and `serve` whether it has
+-- `--log` and `--stop-at-fault`, `check` whether it has `--rest`
 pub data Asked : Type 0 where
   memory : Asked
   format : Text → Text → Asked
   run : Text → List Text → List ℕ → Asked
-  serve : Text → List (Text × Text) → List ℕ → Asked
+  serve : Text → List (Text × Text) → List ℕ → Bool → Bool → Asked
   show : Text → List Text → Asked
   dump : Text → Asked
   load : Text → Text → Text → Asked
-  check : Text → Asked
+  check : Text → Bool → Asked
 
 -- the texts of pairs of words
 abbrev pub pair_texts : List (Bor Text × Bor Text) → List (Text × Text)
@@ -39,11 +40,11 @@ abbrev pub asked_by : Request → Asked
 asked_by request.Memory = memory
 asked_by (request.Format settings disk) = format settings.now disk.now
 asked_by (request.Run disk files orders) = run disk.now (map (λ file. file.now) files.items) orders.items
-asked_by (request.Serve disk pairs orders) = serve disk.now (pair_texts pairs.items) orders.items
+asked_by (request.Serve disk pairs orders log stop_at_fault) = serve disk.now (pair_texts pairs.items) orders.items log stop_at_fault
 asked_by (request.Show disk words) = show disk.now (map (λ word. word.now) words.items)
 asked_by (request.Dump disk) = dump disk.now
 asked_by (request.Load file settings disk) = load file.now settings.now disk.now
-asked_by (request.Check disk) = check disk.now
+asked_by (request.Check disk rest) = check disk.now rest
 
 -- two parts of a request, where neither is missing
 abbrev pub both : {W X Y : Type 0} → (W → X → Y) → Option W → Option X → Option Y
@@ -107,9 +108,15 @@ paired (input ∷ output ∷ rest) = option_map (λ pairs. (input, output) ∷ p
 abbrev pub disk_and_pairs : List Row → Option (Text × List (Text × Text))
 disk_and_pairs found = both (λ disk pairs. (disk, pairs)) (first_of (codes "DISK") found) (paired (unwrap_or (all_of (codes "END") found) []))
 
--- the request of `serve`: its disk, IN and OUT of each station, and the stations that may give orders
+-- a flag was given: clap then has the text `true` for it
+abbrev pub is_given : Text → List Row → Bool
+is_given name found = unwrap_or (option_map (λ text. bytes_eq text (codes "true")) (first_of name found)) false
+
+-- the request of `serve`: its disk, IN and OUT of each station, the stations that may give orders, and its flags
 abbrev pub serve_in : List Row → Option Asked
-serve_in found = both (λ (named : Text × List (Text × Text)) orders. serve named.0 named.1 orders) (disk_and_pairs found) (orders_in found)
+serve_in found =
+    both (λ (named : Text × List (Text × Text)) orders. serve named.0 named.1 orders (is_given (codes "log") found) (is_given (codes "stop-at-fault") found))
+    (disk_and_pairs found) (orders_in found)
 
 -- the request of `show`: its disk and its words
 abbrev pub show_in : List Row → Option Asked
@@ -123,9 +130,9 @@ dump_in found = option_map dump (first_of (codes "DISK") found)
 abbrev pub load_in : List Row → Option Asked
 load_in found = both (λ file (named : Text × Text). load file named.0 named.1) (first_of (codes "DUMP") found) (settings_and_disk found)
 
--- the request of `check`: its disk
+-- the request of `check`: its disk, and its flag
 abbrev pub check_in : List Row → Option Asked
-check_in found = option_map check (first_of (codes "DISK") found)
+check_in found = option_map (λ disk. check disk (is_given (codes "rest") found)) (first_of (codes "DISK") found)
 
 -- the request of `dump`, `load` or `check`
 abbrev pub dump_load_or_check_in : Text × List Row → Option Asked

@@ -4,7 +4,7 @@ use Rattle.std.specs.Prelude.{◌≡◌, false, true, Some, codes, pos}
 use Rattle.clap.specs.Words.{App, Rule, Text, app_of, new_app, new_rule, with_rule, with_subcommand}
 use Rattle.clap.specs.Lexer.{usize_max}
 use Rattle.clap.specs.Simple.{on_top}
-use Rattle.clap.specs.declared.builder.action.ArgAction.TheVariants.{Append}
+use Rattle.clap.specs.declared.builder.action.ArgAction.TheVariants.{Append, SetTrue}
 use Rattle.clap.specs.declared.builder.command.Command.{Command}
 use Rattle.clap.specs.declared.builder.command.Command.TheViews.{out-Command as fields_of}
 use Rattle.clap.specs.declared.builder.value_parser.ValueParser.TheVariants as value
@@ -47,13 +47,24 @@ orders = record (new_rule (codes "orders")) {
 abbrev pub run : App
 run = with_rule (with_two_words (codes "run") (one_word (codes "DISK")) (some_words (codes "FILE"))) orders
 
+-- a flag
+abbrev pub flag : Text → Rule
+flag name = record (new_rule name) {
+  long = Some name;
+  action = Some SetTrue;
+}
+
 -- the words of `serve` after DISK; help names them together
 abbrev pub ends : Rule
 ends = record (any_words (codes "END")) { value_names = 1 }
 
--- `serve [--orders K]... DISK [IN OUT]...`
+-- `serve [--orders K]... DISK [IN OUT]...`, without its flags
+abbrev pub serve_words : App
+serve_words = with_rule (with_two_words (codes "serve") (one_word (codes "DISK")) ends) orders
+
+-- `serve [--orders K]... [--log] [--stop-at-fault] DISK [IN OUT]...`
 abbrev pub serve : App
-serve = with_rule (with_two_words (codes "serve") (one_word (codes "DISK")) ends) orders
+serve = with_rule (with_rule serve_words (flag (codes "log"))) (flag (codes "stop-at-fault"))
 
 -- `show DISK WORD...`
 abbrev pub show : App
@@ -67,9 +78,9 @@ dump = with_rule (new_app (codes "dump")) (one_word (codes "DISK"))
 abbrev pub load : App
 load = with_rule (with_two_words (codes "load") (one_word (codes "DUMP")) (one_word (codes "SETTINGS"))) (one_word (codes "DISK"))
 
--- `check DISK`
+-- `check [--rest] DISK`
 abbrev pub check : App
-check = with_rule (new_app (codes "check")) (one_word (codes "DISK"))
+check = with_rule (with_rule (new_app (codes "check")) (one_word (codes "DISK"))) (flag (codes "rest"))
 
 -- the program without its subcommands: one of them must be named, it has a version, and `help` is no subcommand
 abbrev pub bare : App

@@ -83,6 +83,15 @@ fn run<'a>(alloc: Global) -> Result<Command<'a>, AllocError>
 fn serve<'a>(alloc: Global) -> Result<Command<'a>, AllocError>
     ensures { IfOk result (spec.Describes spec.serve) }
 {
+    serve_words(alloc)?
+        .arg(flag(alloc, "log", LOG))?
+        .arg(flag(alloc, "stop-at-fault", STOP_AT_FAULT))
+}
+
+/// `serve` without its flags.
+fn serve_words<'a>(alloc: Global) -> Result<Command<'a>, AllocError>
+    ensures { IfOk result (spec.Describes spec.serve_words) }
+{
     let disk = one_word(alloc, "DISK", DISK);
     let ends = any_words(alloc, "END", SERVE_ENDS).value_name("IN OUT");
     named(alloc, "serve", SERVE, AFTER_SERVE)
@@ -123,7 +132,10 @@ fn check<'a>(alloc: Global) -> Result<Command<'a>, AllocError>
     ensures { IfOk result (spec.Describes spec.check) }
 {
     let disk = one_word(alloc, "DISK", DISK);
-    named(alloc, "check", CHECK, AFTER_CHECK).arg(disk)
+    named(alloc, "check", CHECK, AFTER_CHECK)
+        .override_usage("tetra-switch check [--rest] <DISK>")
+        .arg(disk)?
+        .arg(flag(alloc, "rest", REST))
 }
 
 /// One required word.
@@ -163,11 +175,23 @@ fn orders<'a>(alloc: Global) -> Arg<'a>
         .help(ORDERS)
 }
 
+/// A flag of this name.
+fn flag<'a>(alloc: Global, name: &'a str, help: &'a str) -> Arg<'a>
+    ensures rule { rule_of result ≡ spec.flag name.now }
+    ensures local { result.global ≡ false }
+{
+    Arg::new(alloc, name)
+        .long(name)
+        .action(ArgAction::SetTrue)
+        .help(help)
+}
+
 /// How `run` is called.
 const RUN_USAGE: &str = "tetra-switch run [--orders <K>]... <DISK> <FILE>...";
 
 /// How `serve` is called.
-pub(crate) const SERVE_USAGE: &str = "tetra-switch serve [--orders <K>]... <DISK> [<IN> <OUT>]...";
+pub(crate) const SERVE_USAGE: &str =
+    "tetra-switch serve [--orders <K>]... [--log] [--stop-at-fault] <DISK> [<IN> <OUT>]...";
 
 const VERSION: &str = "0.1.0 (disk layouts 1 and 2)";
 
@@ -192,6 +216,10 @@ const SERVE_ENDS: &str =
 const ORDERS: &str =
     "Station K may give orders: rule, unrule, delete and expire. The others may not; without --orders each may";
 
+const LOG: &str = "Report the start and the end of each station on standard error";
+
+const STOP_AT_FAULT: &str = "End with status 5 as soon as the device has failed";
+
 const SHOW: &str = "Answers one query of a disk file, and changes nothing.";
 
 const DUMP: &str =
@@ -201,6 +229,9 @@ const LOAD: &str =
     "Makes a disk file with the register of a dump. The settings may have other limits than the disk that was dumped.";
 
 const CHECK: &str = "Reads both sides of a disk file, prints what is damaged, and changes nothing.";
+
+const REST: &str =
+    "Print the register as dump does, without what is damaged; report on standard error what it lacks";
 
 const AFTER: &str = "Example: tetra-switch < station1.txt > answers.txt
 
@@ -244,5 +275,8 @@ Exit status: 0 the disk file is made; 2 the command line is wrong; 3 the setting
 
 const AFTER_CHECK: &str = "Example: tetra-switch check centre.disk
 
-Exit status: 0 no damage was found; 2 the command line is wrong; 4 the disk file can't be read, or the text can't be \
-     written; 5 a sector is damaged, the file holds no register or the disk failed, or no memory.";
+With --rest: tetra-switch check --rest centre.disk > rest.txt
+
+Exit status: 0 no damage was found (with --rest: nothing lacks); 2 the command line is wrong; 4 the disk file can't be \
+     read, or the text can't be written; 5 a sector is damaged, the file holds no register or the disk failed, or no \
+     memory.";

@@ -13,8 +13,8 @@ use std::convert::AsStr;
 
 /// The request of a command line, whose first word is the program's name. Without further words it is to serve
 /// standard input over a register in memory. Else clap reads the words: `format SETTINGS DISK`,
-/// `run [--orders K]... DISK FILE...`, `serve [--orders K]... DISK [IN OUT]...`, `show DISK WORD...`, `dump DISK`,
-/// `load DUMP SETTINGS DISK` or `check DISK`. A word after `--` is never read as a flag.
+/// `run [--orders K]... DISK FILE...`, `serve [--orders K]... [--log] [--stop-at-fault] DISK [IN OUT]...`,
+/// `show DISK WORD...`, `dump DISK`, `load DUMP SETTINGS DISK` or `check [--rest] DISK`. A word after `--` is never read as a flag.
 ///
 /// # Errors
 /// `Help` for `--help` or `-h`, also of a subcommand; `Version` for `--version` or `-V`. `Wrong` or `Missing` for every
@@ -144,8 +144,20 @@ fn serve_of<'a>(alloc: Global, found: &ArgMatches<'a>) -> Result<Option<Request<
             disk,
             pairs,
             orders,
+            log: flag(found, "log"),
+            stop_at_fault: flag(found, "stop-at-fault"),
         })),
         None => Ok(None),
+    }
+}
+
+/// Whether a flag was given: clap then has the text `true` for it.
+fn flag(found: &ArgMatches<'_>, name: &str) -> bool
+    ensures { result ≡ spec.is_given name.now (rows_of (found_of found.now)) }
+{
+    match word(found, name) {
+        Some(text) => text == "true",
+        None => false,
     }
 }
 
@@ -238,7 +250,8 @@ fn check_of<'a>(found: &ArgMatches<'a>) -> Option<Request<'a>>
     ensures { option_map spec.asked_by result ≡ spec.check_in (rows_of (found_of found.now)) }
 {
     let disk = word(found, "DISK")?;
-    Some(Request::Check { disk })
+    let rest = flag(found, "rest");
+    Some(Request::Check { disk, rest })
 }
 
 /// The settings and the disk that clap found.

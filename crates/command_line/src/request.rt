@@ -32,7 +32,7 @@ pub enum Request<'a> {
         /// The stations that may give orders. If it names none, each may.
         orders: Vec<u16>,
     },
-    /// `serve [--orders K]... DISK [IN OUT]...`: serve stations on a disk file, and write each answer as it comes.
+    /// `serve [--orders K]... [--log] [--stop-at-fault] DISK [IN OUT]...`: serve stations on a disk file, and write each answer as it comes.
     Serve {
         /// The disk file.
         disk: &'a str,
@@ -40,6 +40,10 @@ pub enum Request<'a> {
         pairs: Vec<(&'a str, &'a str)>,
         /// The stations that may give orders. If it names none, each may.
         orders: Vec<u16>,
+        /// Whether the starts and ends of stations are reported.
+        log: bool,
+        /// Whether the program ends when the device has failed.
+        stop_at_fault: bool,
     },
     /// `show DISK WORD...`: answer one query of a disk file.
     Show {
@@ -62,10 +66,12 @@ pub enum Request<'a> {
         /// The disk file that is made.
         disk: &'a str,
     },
-    /// `check DISK`: read both sides of a disk file, and print what is damaged.
+    /// `check [--rest] DISK`: read both sides of a disk file, and print what is damaged.
     Check {
         /// The disk file.
         disk: &'a str,
+        /// Whether the register is printed as text, as far as it can be read.
+        rest: bool,
     },
 }
 

@@ -37,6 +37,11 @@ serve d -- --orders 3 = serve d --orders 3
 serve --orders 65535 d = serve d orders 65535
 serve --orders 007 d = serve d orders 7
 serve --orders +7 d = serve d orders 7
+serve --log d = serve d log
+serve d a b --log = serve d a b log
+serve --stop-at-fault d a b = serve d a b stop
+serve --log --orders 2 d --stop-at-fault a b = serve d a b orders 2 log stop
+serve d -- --log --stop-at-fault = serve d --log --stop-at-fault
 run --orders 2 d a = run d a orders 2
 run d a b --orders 2 --orders 1 = run d a b orders 2 1
 show centre.disk count = show centre.disk count
@@ -62,6 +67,11 @@ check dump = check dump
 check - = check -
 check -- -x = check -x
 check -- --help = check --help
+check --rest centre.disk = check centre.disk rest
+check d --rest = check d rest
+check --rest -- -x = check -x rest
+check --rest -- --rest = check --rest rest
+check -- --rest = check --rest
 --help = help
 -h = help
 -hx = help
@@ -83,6 +93,7 @@ load t s d --help = help
 check --help = help
 check -h = help
 check d --help = help
+check --rest --help = help
 --version = version
 -V = version
 --version --help = version
@@ -127,6 +138,16 @@ serve --orders= d = wrong
 serve --orders  d = wrong
 serve --order 1 d = wrong
 serve --orders 1 = wrong
+serve --log = wrong
+serve --log --log d = wrong
+serve --log=true d = wrong
+serve --stop-at-fault= d = wrong
+serve --stop d = wrong
+run --log d a = wrong
+run --stop-at-fault d a = wrong
+--log serve d = wrong
+serve --log d a = missing
+serve -- d --log = missing
 show --orders 1 d count = wrong
 --orders 1 serve d = wrong
 serve --orders 1 d a = missing
@@ -166,6 +187,12 @@ check = wrong
 check -- = wrong
 check d e = wrong
 check d -- e = wrong
+check --rest = wrong
+check --rest d e = wrong
+check --rest --rest d = wrong
+check --rest=d = wrong
+check --res d = wrong
+dump --rest d = wrong
 check -x = wrong
 check --disk d = wrong
 check d --version = wrong
@@ -197,6 +224,14 @@ fn push_orders(text: &mut String, orders: &[u16]) -> Result<(), AllocError> {
     for station in orders {
         text.push_str(" ")?;
         push_number(text, *station)?;
+    }
+    Ok(())
+}
+
+/// Appends the word of a flag that was given.
+fn push_flag(text: &mut String, given: bool, word: &str) -> Result<(), AllocError> {
+    if given {
+        text.push_str(word)?;
     }
     Ok(())
 }
@@ -236,11 +271,15 @@ fn request_text(alloc: Global, request: &Request<'_>) -> Result<String, AllocErr
             disk,
             pairs,
             orders,
+            log,
+            stop_at_fault,
         } => {
             text.push_str("serve")?;
             push_words(&mut text, &[*disk])?;
             push_pairs(&mut text, pairs.as_slice())?;
             push_orders(&mut text, orders.as_slice())?;
+            push_flag(&mut text, *log, " log")?;
+            push_flag(&mut text, *stop_at_fault, " stop")?;
         }
         Request::Show { disk, words } => {
             text.push_str("show")?;
@@ -259,9 +298,10 @@ fn request_text(alloc: Global, request: &Request<'_>) -> Result<String, AllocErr
             text.push_str("load")?;
             push_words(&mut text, &[*dump, *settings, *disk])?;
         }
-        Request::Check { disk } => {
+        Request::Check { disk, rest } => {
             text.push_str("check")?;
             push_words(&mut text, &[*disk])?;
+            push_flag(&mut text, *rest, " rest")?;
         }
     }
     Ok(text)

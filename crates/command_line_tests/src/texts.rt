@@ -64,8 +64,9 @@ fn help_of_each_subcommand(rt: HostRuntime) -> Result<(), Fail> {
         "Exit status:",
     ];
     let serve = [
-        "Usage: tetra-switch serve [--orders <K>]... <DISK> [<IN> <OUT>]...\n",
+        "Usage: tetra-switch serve [--orders <K>]... [--log] [--stop-at-fault] <DISK> [<IN> <OUT>]...\n",
         "--orders <K>",
+        "--stop-at-fault ",
         "Example: tetra-switch serve ",
         "Exit status:",
     ];
@@ -95,7 +96,7 @@ fn help_of_dump_load_and_check(rt: HostRuntime) -> Result<(), Fail> {
         "Exit status:",
     ];
     let check = [
-        "Usage: tetra-switch check <DISK>\n",
+        "Usage: tetra-switch check [--rest] <DISK>\n",
         "Example: tetra-switch check ",
         "Exit status:",
     ];
@@ -116,7 +117,7 @@ fn usage_names_the_program(rt: HostRuntime) -> Result<(), Fail> {
 fn last_in_without_out(rt: HostRuntime) -> Result<(), Fail> {
     let text = text_of(rt.alloc(), &["t", "serve", "d", "1.in", "1.out", "2.in"])?;
     let wanted =
-        "error: the last IN has no OUT\n\nUsage: tetra-switch serve [--orders <K>]... <DISK> [<IN> <OUT>]...\n\nFor more information, try '--help'.\n";
+        "error: the last IN has no OUT\n\nUsage: tetra-switch serve [--orders <K>]... [--log] [--stop-at-fault] <DISK> [<IN> <OUT>]...\n\nFor more information, try '--help'.\n";
     assert!(rt; text.as_str() == wanted);
     Ok(())
 }

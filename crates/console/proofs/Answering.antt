@@ -3,7 +3,7 @@ use Rattle.std.proofs.Common.{◌≡◌, ◌⊎◌, ℕ, ◌+◌, ◌<◌, ◌�
 use Rattle.std.proofs.lemmas.Bool.{true≢false}
 use Rattle.centre_core.specs.declared.query.QueryAnswer.{QueryAnswer}
 use Rattle.console.specs.declared.line.Line.{Line}
-use Rattle.console.specs.declared.line.Line.TheVariants.{Silent, Bad, Apply, Ask, Print, Mark, OwnStation, Forbidden}
+use Rattle.console.specs.declared.line.Line.TheVariants.{Silent, Bad, Apply, Ask, Print, Mark, OwnStation, Service, Forbidden}
 use Rattle.console.specs.declared.answer.Answer.{Answer}
 use Rattle.console.specs.declared.answer.Answer.TheVariants as answer
 use Rattle.console.specs.declared.running.RunFault.{RunFault}
@@ -37,6 +37,8 @@ only_lists_are_long (answer.Replied sequence reply) short long = absurd (long sh
 only_lists_are_long (answer.CommandOutage sequence word) short long = absurd (long tt)
 only_lists_are_long (answer.Queried query_answer) short long = line_or_list (is_list query_answer) query_answer refl long
 only_lists_are_long (answer.Listed lines) short long = absurd short
+only_lists_are_long (answer.Service lines) short long = absurd short
+only_lists_are_long (answer.ServiceOutage line) short long = absurd (long tt)
 only_lists_are_long (answer.QueryOutage line word) short long = absurd (long tt)
 
 module _ {A W : Type 0} where
@@ -45,12 +47,26 @@ module _ {A W : Type 0} where
   query_outage rules n s t (Bad fault) a list given = absurd (true≢false (sym list ∙ ap is_list_answer given.0))
   query_outage rules n s t (Mark word) a list given = absurd (true≢false (sym list ∙ ap is_list_answer given.0))
   query_outage rules n s t (OwnStation own) a list given = absurd (true≢false (sym list ∙ ap is_list_answer given.0))
+  query_outage rules n s t Service (answer.Service lines) list given = absurd (true≢false (sym list))
+  query_outage rules n s t Service (answer.ServiceOutage number) list given = absurd (true≢false (sym list))
+  query_outage rules n s t Service answer.Quiet list given = absurd given.0
+  query_outage rules n s t Service (answer.Marked word) list given = absurd given.0
+  query_outage rules n s t Service (answer.OwnStation own) list given = absurd given.0
+  query_outage rules n s t Service (answer.Forbidden order) list given = absurd given.0
+  query_outage rules n s t Service (answer.Bad number fault) list given = absurd given.0
+  query_outage rules n s t Service (answer.Replied sequence reply) list given = absurd given.0
+  query_outage rules n s t Service (answer.CommandOutage sequence word) list given = absurd given.0
+  query_outage rules n s t Service (answer.Queried query_answer) list given = absurd given.0
+  query_outage rules n s t Service (answer.Listed lines) list given = absurd given.0
+  query_outage rules n s t Service (answer.QueryOutage number word) list given = absurd given.0
   query_outage rules n s t (Forbidden order) a list given = absurd (true≢false (sym list ∙ ap is_list_answer given.0))
   query_outage rules n s t (Apply c) (answer.Replied sequence reply) list given = absurd (true≢false (sym list))
   query_outage rules n s t (Apply c) (answer.CommandOutage sequence word) list given = absurd (true≢false (sym list))
   query_outage rules n s t (Apply c) answer.Quiet list given = absurd given
   query_outage rules n s t (Apply c) (answer.Marked word) list given = absurd given
   query_outage rules n s t (Apply c) (answer.OwnStation own) list given = absurd given
+  query_outage rules n s t (Apply c) (answer.Service lines) list given = absurd given
+  query_outage rules n s t (Apply c) (answer.ServiceOutage number) list given = absurd given
   query_outage rules n s t (Apply c) (answer.Forbidden order) list given = absurd given
   query_outage rules n s t (Apply c) (answer.Bad number fault) list given = absurd given
   query_outage rules n s t (Apply c) (answer.Queried query_answer) list given = absurd given
@@ -61,6 +77,8 @@ module _ {A W : Type 0} where
   query_outage rules n s t (Ask q) answer.Quiet list given = absurd given
   query_outage rules n s t (Ask q) (answer.Marked word) list given = absurd given
   query_outage rules n s t (Ask q) (answer.OwnStation own) list given = absurd given
+  query_outage rules n s t (Ask q) (answer.Service lines) list given = absurd given
+  query_outage rules n s t (Ask q) (answer.ServiceOutage number) list given = absurd given
   query_outage rules n s t (Ask q) (answer.Forbidden order) list given = absurd given
   query_outage rules n s t (Ask q) (answer.Bad number fault) list given = absurd given
   query_outage rules n s t (Ask q) (answer.Replied sequence reply) list given = absurd given
@@ -71,6 +89,8 @@ module _ {A W : Type 0} where
   query_outage rules n s t (Print l) answer.Quiet list given = absurd given
   query_outage rules n s t (Print l) (answer.Marked word) list given = absurd given
   query_outage rules n s t (Print l) (answer.OwnStation own) list given = absurd given
+  query_outage rules n s t (Print l) (answer.Service lines) list given = absurd given
+  query_outage rules n s t (Print l) (answer.ServiceOutage number) list given = absurd given
   query_outage rules n s t (Print l) (answer.Forbidden order) list given = absurd given
   query_outage rules n s t (Print l) (answer.Bad number fault) list given = absurd given
   query_outage rules n s t (Print l) (answer.Replied sequence reply) list given = absurd given

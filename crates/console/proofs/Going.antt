@@ -20,7 +20,7 @@ use Rattle.console.specs.Inside.Given.{IsTextFor}
 use Rattle.console.proofs.Answering.{is_given_for}
 use Rattle.console.proofs.Splits.{is_feed, line_ended, lines_last}
 use Rattle.console.proofs.Talk.{texts_more, trouble_more, dialogue_more}
-use Rattle.console.proofs.Told.{nothing_passes, passes_by, passes_on, told_all, told_some}
+use Rattle.console.proofs.Told.{passes_by, passes_on, still_passes, told_all, told_some}
 use Rattle.console.specs.Reading.{Speaker}
 
 -- the lines of a text that doesn't end in a line feed
@@ -97,7 +97,7 @@ module _ {A W : Type 0} (rules : Rules A W) (start : Start W) (begun : Sent) whe
   short_between taken rest now fault i =
       told_some rules start begun (taken ++ rest) now.written now.written now.world fault i.done (lines (i.line ++ rest)) i.answers [] [] [] [] (i.split rest)
       (subst (λ (given : List (Answer A)). Dialogue rules start.speaker 0 start.world i.done given now.world) (sym (append-nil i.answers)) i.each)
-      (omega arith) refl i.passed (nothing_passes now.written now.written [] refl (λ held known. known))
+      (omega arith) refl i.passed (still_passes now.written [])
 
   -- cut off within the answer to a line, of which some text is left
   pub short_within : (taken all : List ℕ) (old : Reached A W) (fault : RunFault) (new : Sent) (t : W)
@@ -175,7 +175,7 @@ module _ {A W : Type 0} (rules : Rules A W) (start : Start W) (begun : Sent) whe
   pub short_at_once : (input : List ℕ) (fault : RunFault) (now : Sent) → Passes begun now [] [] [] → HasEnded rules start begun input now start.world (Err fault)
   short_at_once input fault now still =
       told_some rules start begun input begun now start.world fault [] (lines input) [] [] [] [] [] refl refl (omega arith) refl
-      (nothing_passes begun begun [] refl (λ held known. known)) still
+      (still_passes begun []) still
 
   -- bytes that end no line
   pub going_more : (taken : List ℕ) (old : Reached A W) (progress : Progress A) (run : List ℕ) → HasNoEnd run → progress.lines ≡ old.progress.lines → progress.troubled ≡ old.progress.troubled →

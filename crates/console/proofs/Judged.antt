@@ -14,19 +14,19 @@ use Rattle.centre_core.specs.declared.command.Body.TheVariants.{RuleClear, Sent,
 use Rattle.centre_core.specs.declared.query.Query.{Query}
 use Rattle.centre_core.specs.declared.query.Query.TheVariants.{Whereabouts, Look, GroupsOf, MembersOf, Waiting, Total}
 use Rattle.listings.specs.declared.listing.Listing.{Listing}
-use Rattle.listings.specs.declared.listing.Listing.TheVariants.{Entries, Last, Room}
+use Rattle.listings.specs.declared.listing.Listing.TheVariants.{Entries, Last, Room, Dump}
 use Rattle.listings.specs.declared.listing.Table.TheVariants.{Rules, Radios, Items}
 use Rattle.console.specs.declared.body.Head.{Head}
 use Rattle.console.specs.declared.line.LineFault.{LineFault}
 use Rattle.console.specs.declared.line.LineFault.TheVariants.{Syntax, Value, TooLong}
 use Rattle.console.specs.declared.line.Line.{Line}
-use Rattle.console.specs.declared.line.Line.TheVariants.{Silent, Bad, Apply, Ask, Print, Mark, OwnStation, Forbidden}
-use Rattle.console.specs.Reading.{words, of_words, is_silent, longest_line, reading, head_in, area_in, rule_in, key_in, rule_body, mm_body, sds_body, group_sds_body, body_in, command_line, saying, query_in, ask, prefix_in, seconds_in, station_in, radios_under, due_at, listing_or, print, marked, of_word, of_two}
+use Rattle.console.specs.declared.line.Line.TheVariants.{Silent, Bad, Apply, Ask, Print, Mark, OwnStation, Service, Forbidden}
+use Rattle.console.specs.Reading.{words, of_words, is_silent, longest_line, reading, head_in, area_in, rule_in, key_in, rule_body, mm_body, sds_body, group_sds_body, body_in, command_line, saying, query_in, ask, prefix_in, seconds_in, station_in, radios_under, due_at, waiting_at, listing_or, print, marked, of_word, of_two}
 use Rattle.console.specs.Mark.{mark_in}
 use Rattle.console.specs.Spelling.{has_form, is_one_of, SpellsSome, BadLines}
 use Rattle.console.proofs.Spelled.{only_commands, only_queries, only_listings}
 use Rattle.console.proofs.Taken.{all_commands, all_queries, all_listings}
-use Rattle.console.proofs.OwnLines.{only_marks, only_own, all_marks, all_own}
+use Rattle.console.proofs.OwnLines.{only_marks, only_own, only_service, all_marks, all_own, all_service}
 
 -- what the words of a form give: a value, or that one of them is out of form or range
 abbrev IsFormed : {T : Type 0} → Result T LineFault → Type 0
@@ -141,9 +141,10 @@ module _ (A : Type 0) where
   kind_of (Print l) = 6
   kind_of (Mark word) = 7
   kind_of (OwnStation own) = 8
+  kind_of Service = 9
   kind_of (Forbidden order) = 0
 
-  -- words of a form are a command, a query, a listing, a mark, the question which station this is, or a bad value
+  -- words of a form are a command, a query, a listing, a mark, the question which station this is or for the service, or a bad value
   abbrev IsValued : Line A → Type 0
   IsValued l = 3 ≤ kind_of l
 
@@ -186,7 +187,9 @@ module _ (A : Type 0) where
       (valued_if (bytes_eq name (codes "radios")) _ (Print (Entries (Radios None))) _ (omega arith)
       (valued_if (bytes_eq name (codes "items")) _ (Print (Entries Items)) _ (omega arith)
       (valued_if (bytes_eq name (codes "room")) _ (Print Room) _ (omega arith)
-      (valued_if (bytes_eq name (codes "station")) false (OwnStation station) (Bad Syntax) (omega arith) (λ f. absurd (false≢true f))))))) e
+      (valued_if (bytes_eq name (codes "dump")) _ (Print Dump) _ (omega arith)
+      (valued_if (bytes_eq name (codes "station")) _ (OwnStation station) _ (omega arith)
+      (valued_if (bytes_eq name (codes "service")) false Service (Bad Syntax) (omega arith) (λ f. absurd (false≢true f))))))))) e
 
   word_formless : (station : ℕ) (name : List ℕ) → has_form (name ∷ []) ≡ false → of_word {A = A} station name ≡ Bad Syntax
   word_formless station name e =
@@ -195,7 +198,9 @@ module _ (A : Type 0) where
       (unformed_if (bytes_eq name (codes "radios")) _ (Print (Entries (Radios None))) _
       (unformed_if (bytes_eq name (codes "items")) _ (Print (Entries Items)) _
       (unformed_if (bytes_eq name (codes "room")) _ (Print Room) _
-      (unformed_if (bytes_eq name (codes "station")) false (OwnStation station) (Bad Syntax) (λ f. refl)))))) e
+      (unformed_if (bytes_eq name (codes "dump")) _ (Print Dump) _
+      (unformed_if (bytes_eq name (codes "station")) _ (OwnStation station) _
+      (unformed_if (bytes_eq name (codes "service")) false Service (Bad Syntax) (λ f. refl)))))))) e
 
   -- a listing under its name, or one of the rest
   listing_valued : (b c : Bool) (x : Result Listing LineFault) (rest : Option (Result Listing LineFault)) (r : Result Query LineFault) →
@@ -214,8 +219,9 @@ module _ (A : Type 0) where
       valued_if (bytes_eq name (codes "mark")) _ (marked (mark_in word)) _ (valued_mark (mark_in word))
       (listing_valued (bytes_eq name (codes "radios")) _ (saying radios_under (prefix_in word)) _ query (formed_saying radios_under (prefix_in word))
       (listing_valued (bytes_eq name (codes "due")) _ (saying due_at (seconds_in word)) _ query (formed_saying due_at (seconds_in word))
+      (listing_valued (bytes_eq name (codes "waiting")) _ (saying waiting_at (station_in word)) _ query (formed_saying waiting_at (station_in word))
       (listing_valued (bytes_eq name (codes "last")) (is_one_of query_names name) (saying Last (station_in word)) None query (formed_saying Last (station_in word))
-      (λ f. valued_ask query (query_formed name word f))))) e
+      (λ f. valued_ask query (query_formed name word f)))))) e
 
   two_formless : (name word : List ℕ) → has_form (name ∷ word ∷ []) ≡ false → of_two {A = A} name word ≡ Bad Syntax
   two_formless name word e =
@@ -223,8 +229,9 @@ module _ (A : Type 0) where
       unformed_if (bytes_eq name (codes "mark")) _ (marked (mark_in word)) _
       (listing_formless (bytes_eq name (codes "radios")) _ (saying radios_under (prefix_in word)) _ query
       (listing_formless (bytes_eq name (codes "due")) _ (saying due_at (seconds_in word)) _ query
+      (listing_formless (bytes_eq name (codes "waiting")) _ (saying waiting_at (station_in word)) _ query
       (listing_formless (bytes_eq name (codes "last")) (is_one_of query_names name) (saying Last (station_in word)) None query
-      (λ f. ap (λ r. ask {A = A} r) (query_formless name word f))))) e
+      (λ f. ap (λ r. ask {A = A} r) (query_formless name word f)))))) e
 
   valued : (station : ℕ) (ws : List (List ℕ)) → has_form ws ≡ true → IsValued (of_words station ws)
   valued station [] e = absurd (false≢true e)
@@ -281,17 +288,18 @@ module _ (A : Type 0) where
   judged_of long silent l short speaks = rw (short, speaks) refl
 
   value_left : (l : Line A) → IsValued l → ((c : Command A) → l ≡ Apply c → ⊥) → ((q : Query) → l ≡ Ask q → ⊥) → ((k : Listing) → l ≡ Print k → ⊥) →
-      ((w : List ℕ) → l ≡ Mark w → ⊥) → ((n : ℕ) → l ≡ OwnStation n → ⊥) → l ≡ Bad Value
-  value_left Silent good no_command no_ask no_print no_mark no_own = absurd (omega (arith, good))
-  value_left (Bad TooLong) good no_command no_ask no_print no_mark no_own = absurd (omega (arith, good))
-  value_left (Bad Syntax) good no_command no_ask no_print no_mark no_own = absurd (omega (arith, good))
-  value_left (Bad Value) good no_command no_ask no_print no_mark no_own = refl
-  value_left (Apply c) good no_command no_ask no_print no_mark no_own = absurd (no_command c refl)
-  value_left (Ask q) good no_command no_ask no_print no_mark no_own = absurd (no_ask q refl)
-  value_left (Print k) good no_command no_ask no_print no_mark no_own = absurd (no_print k refl)
-  value_left (Mark w) good no_command no_ask no_print no_mark no_own = absurd (no_mark w refl)
-  value_left (OwnStation n) good no_command no_ask no_print no_mark no_own = absurd (no_own n refl)
-  value_left (Forbidden order) good no_command no_ask no_print no_mark no_own = absurd (omega (arith, good))
+      ((w : List ℕ) → l ≡ Mark w → ⊥) → ((n : ℕ) → l ≡ OwnStation n → ⊥) → (l ≡ Service → ⊥) → l ≡ Bad Value
+  value_left Silent good no_command no_ask no_print no_mark no_own no_service = absurd (omega (arith, good))
+  value_left (Bad TooLong) good no_command no_ask no_print no_mark no_own no_service = absurd (omega (arith, good))
+  value_left (Bad Syntax) good no_command no_ask no_print no_mark no_own no_service = absurd (omega (arith, good))
+  value_left (Bad Value) good no_command no_ask no_print no_mark no_own no_service = refl
+  value_left (Apply c) good no_command no_ask no_print no_mark no_own no_service = absurd (no_command c refl)
+  value_left (Ask q) good no_command no_ask no_print no_mark no_own no_service = absurd (no_ask q refl)
+  value_left (Print k) good no_command no_ask no_print no_mark no_own no_service = absurd (no_print k refl)
+  value_left (Mark w) good no_command no_ask no_print no_mark no_own no_service = absurd (no_mark w refl)
+  value_left (OwnStation n) good no_command no_ask no_print no_mark no_own no_service = absurd (no_own n refl)
+  value_left Service good no_command no_ask no_print no_mark no_own no_service = absurd (no_service refl)
+  value_left (Forbidden order) good no_command no_ask no_print no_mark no_own no_service = absurd (omega (arith, good))
 
   -- what spells a command, a query, a listing or a mark, or asks which station this is, is no bad line
   spelt_is_taken : (station : ℕ) (line : List ℕ) → length line ≤ longest_line → SpellsSome A station line → reading {A = A} station line ≡ Bad Value → ⊥
@@ -310,8 +318,12 @@ module _ (A : Type 0) where
           | inl mark ↦ (let w = mark.0 in
               let taken = subst (λ (text : List ℕ). reading {A = A} station text ≡ Mark w) (sym mark.2) (all_marks A station w mark.1) in
               omega (arith, same_kind (Mark w) (Bad Value) (sym taken ∙ e)))
-          | inr same ↦ (let taken = subst (λ (text : List ℕ). reading {A = A} station text ≡ OwnStation station) (sym same) (all_own A station) in
-              omega (arith, same_kind (OwnStation station) (Bad Value) (sym taken ∙ e)))
+          | inr last ↦ elim last [
+            | inl same ↦ (let taken = subst (λ (text : List ℕ). reading {A = A} station text ≡ OwnStation station) (sym same) (all_own A station) in
+                omega (arith, same_kind (OwnStation station) (Bad Value) (sym taken ∙ e)))
+            | inr same ↦ (let taken = subst (λ (text : List ℕ). reading {A = A} station text ≡ Service) (sym same) (all_service A station) in
+                omega (arith, same_kind Service (Bad Value) (sym taken ∙ e)))
+          ]
         ]
       ]
     ]
@@ -333,6 +345,7 @@ module _ (A : Type 0) where
               (λ q e. (let only = only_queries station line q (all ∙ e) in f.2 (inr (inl (q, only.in_range, only.spelt)))))
               (λ k e. (let only = only_listings station line k (all ∙ e) in f.2 (inr (inr (inl (k, only.in_range, only.spelt))))))
               (λ w e. (let only = only_marks A station line w (all ∙ e) in f.2 (inr (inr (inr (inl (w, only.in_range, only.spelt)))))))
-              (λ n e. f.2 (inr (inr (inr (inr (only_own A station n line (all ∙ e)).1)))))),
+              (λ n e. f.2 (inr (inr (inr (inr (inl (only_own A station n line (all ∙ e)).1))))))
+              (λ e. f.2 (inr (inr (inr (inr (inr (only_service A station line (all ∙ e))))))))),
         );
       }

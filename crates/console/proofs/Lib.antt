@@ -1,4 +1,5 @@
 pub mod Splits
+pub mod StationLines
 pub mod Fits
 pub mod Items
 pub mod Marks

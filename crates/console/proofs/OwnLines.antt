@@ -10,16 +10,16 @@ use Rattle.centre_core.specs.declared.command.Body.{Body}
 use Rattle.centre_core.specs.declared.query.Query.{Query}
 use Rattle.centre_core.specs.declared.query.Query.TheVariants.{Total}
 use Rattle.listings.specs.declared.listing.Listing.{Listing}
-use Rattle.listings.specs.declared.listing.Listing.TheVariants.{Entries, Room}
+use Rattle.listings.specs.declared.listing.Listing.TheVariants.{Entries, Room, Dump}
 use Rattle.listings.specs.declared.listing.Table.TheVariants.{Rules, Radios, Items}
 use Rattle.console.specs.declared.body.Head.{Head}
 use Rattle.console.specs.declared.line.LineFault.{LineFault}
 use Rattle.console.specs.declared.line.LineFault.TheVariants.{Syntax, Value, TooLong}
 use Rattle.console.specs.declared.line.Line.{Line}
-use Rattle.console.specs.declared.line.Line.TheVariants.{Silent, Bad, Apply, Ask, Print, Mark, OwnStation, Forbidden}
+use Rattle.console.specs.declared.line.Line.TheVariants.{Silent, Bad, Apply, Ask, Print, Mark, OwnStation, Service, Forbidden}
 use Rattle.console.specs.Mark.{has_mark_length, is_mark, mark_in}
 use Rattle.console.specs.Reading.{Lacks, words, of_words, is_silent, longest_line, head_in, body_in, command_line, query_in, ask, listing_in, listing_or, print, marked, of_word}
-use Rattle.console.specs.Spelling.{spaced, mark_line, station_line, OnlyMarks, OnlyOwnStation, NothingForbidden, AllMarks, AllOwnStation}
+use Rattle.console.specs.Spelling.{spaced, mark_line, station_line, service_line, OnlyMarks, OnlyOwnStation, OnlyService, NothingForbidden, AllMarks, AllOwnStation, AllService}
 use Rattle.console.proofs.Spelled.{line_else, named}
 use Rattle.console.proofs.Taken.{all_lack, letters_lack, passes, words_back}
 
@@ -44,8 +44,9 @@ module _ (A : Type 0) where
   case (Mark word) = 5
   case (OwnStation own) = 6
   case (Forbidden order) = 7
+  case Service = 8
 
-  -- no mark, no station, and nothing that is forbidden
+  -- no mark, no station, no service, and nothing that is forbidden
   abbrev IsOther : Line A → Type 0
   IsOther line = case line < 5
 
@@ -74,14 +75,17 @@ module _ (A : Type 0) where
   not_other a b other some e = absurd (omega (arith, other, some, same_case a b e))
 
   -- what comes of a word alone
-  of_alone : {P : Type 0} (station : ℕ) (name : List ℕ) (l : Line A) → 5 ≤ case l → (bytes_eq name (codes "station") ≡ true → (let own : Line A = OwnStation station in own) ≡ l → P) → of_word {A = A} station name ≡ l → P
-  of_alone station name l some own e =
+  of_alone : {P : Type 0} (station : ℕ) (name : List ℕ) (l : Line A) → 5 ≤ case l → (bytes_eq name (codes "station") ≡ true → (let own : Line A = OwnStation station in own) ≡ l → P)
+      → (bytes_eq name (codes "service") ≡ true → (let service : Line A = Service in service) ≡ l → P) → of_word {A = A} station name ≡ l → P
+  of_alone station name l some own service e =
       line_else (bytes_eq name (codes "count")) (Ask Total) _ l (λ is same. not_other (Ask Total) l (omega arith) some same)
       (line_else (bytes_eq name (codes "rules")) (Print (Entries Rules)) _ l (λ is same. not_other (Print (Entries Rules)) l (omega arith) some same)
       (line_else (bytes_eq name (codes "radios")) (Print (Entries (Radios None))) _ l (λ is same. not_other (Print (Entries (Radios None))) l (omega arith) some same)
       (line_else (bytes_eq name (codes "items")) (Print (Entries Items)) _ l (λ is same. not_other (Print (Entries Items)) l (omega arith) some same)
       (line_else (bytes_eq name (codes "room")) (Print Room) _ l (λ is same. not_other (Print Room) l (omega arith) some same)
-      (line_else (bytes_eq name (codes "station")) (OwnStation station) (Bad Syntax) l own (λ same. not_other (Bad Syntax) l (omega arith) some same)))))) e
+      (line_else (bytes_eq name (codes "dump")) (Print Dump) _ l (λ is same. not_other (Print Dump) l (omega arith) some same)
+      (line_else (bytes_eq name (codes "station")) (OwnStation station) _ l own
+      (line_else (bytes_eq name (codes "service")) Service (Bad Syntax) l service (λ same. not_other (Bad Syntax) l (omega arith) some same)))))))) e
 
   -- the mark that is made of a word
   marked_by : (b : Bool) (word said : List ℕ) → marked {A = A} (if b then Some word else None) ≡ Mark said → (b ≡ true) × (word ≡ said)
@@ -98,7 +102,7 @@ module _ (A : Type 0) where
   -- the words of a mark
   words_marked : (station : ℕ) (ws : List (List ℕ)) (said : List ℕ) → of_words {A = A} station ws ≡ Mark said → (is_mark said ≡ true) × (ws ≡ codes "mark" ∷ said ∷ [])
   words_marked station [] said e = not_other (Bad Syntax) (Mark said) (omega arith) (omega arith) e
-  words_marked station (name ∷ []) said e = of_alone station name (Mark said) (omega arith) (λ is same. absurd (omega (arith, same_case (OwnStation station) (Mark said) same))) e
+  words_marked station (name ∷ []) said e = of_alone station name (Mark said) (omega arith) (λ is same. absurd (omega (arith, same_case (OwnStation station) (Mark said) same))) (λ is same. absurd (omega (arith, same_case Service (Mark said) same))) e
   words_marked station (name ∷ word ∷ []) said e =
       line_else (bytes_eq name (codes "mark")) (marked (mark_in word)) _ (Mark said)
       (λ is same. (let f = marked_by (is_mark word) word said same in
@@ -111,12 +115,29 @@ module _ (A : Type 0) where
   words_own : (station : ℕ) (ws : List (List ℕ)) (said : ℕ) → of_words {A = A} station ws ≡ OwnStation said → (said ≡ station) × (ws ≡ codes "station" ∷ [])
   words_own station [] said e = not_other (Bad Syntax) (OwnStation said) (omega arith) (omega arith) e
   words_own station (name ∷ []) said e =
-      of_alone station name (OwnStation said) (omega arith) (λ is same. (sym (own_same station said same), ap (λ w. w ∷ []) (named name (codes "station") is))) e
+      of_alone station name (OwnStation said) (omega arith) (λ is same. (sym (own_same station said same), ap (λ w. w ∷ []) (named name (codes "station") is)))
+      (λ is same. absurd (omega (arith, same_case Service (OwnStation said) same))) e
   words_own station (name ∷ word ∷ []) said e =
       line_else (bytes_eq name (codes "mark")) (marked (mark_in word)) _ (OwnStation said) (λ is same. absurd (no_own (mark_in word) said same))
       (λ same. not_other (listing_or (listing_in name word) (query_in name word)) (OwnStation said) (other_two (listing_in name word) (query_in name word)) (omega arith) same) e
   words_own station (s ∷ m ∷ name ∷ more) said e =
       not_other (command_line station (head_in s m) (body_in name more)) (OwnStation said) (other_command station (head_in s m) (body_in name more)) (omega arith) e
+
+  no_service : (o : Option (List ℕ)) → marked {A = A} o ≡ Service → ⊥
+  no_service (Some word) e = omega (arith, same_case (Mark word) Service e)
+  no_service None e = omega (arith, same_case (Bad Value) Service e)
+
+  -- the word that asks for the figures of the service
+  words_service : (station : ℕ) (ws : List (List ℕ)) → of_words {A = A} station ws ≡ Service → ws ≡ codes "service" ∷ []
+  words_service station [] e = not_other (Bad Syntax) Service (omega arith) (omega arith) e
+  words_service station (name ∷ []) e =
+      of_alone station name Service (omega arith) (λ is same. absurd (omega (arith, same_case (OwnStation station) Service same)))
+      (λ is same. ap (λ w. w ∷ []) (named name (codes "service") is)) e
+  words_service station (name ∷ word ∷ []) e =
+      line_else (bytes_eq name (codes "mark")) (marked (mark_in word)) _ Service (λ is same. absurd (no_service (mark_in word) same))
+      (λ same. not_other (listing_or (listing_in name word) (query_in name word)) Service (other_two (listing_in name word) (query_in name word)) (omega arith) same) e
+  words_service station (s ∷ m ∷ name ∷ more) e =
+      not_other (command_line station (head_in s m) (body_in name more)) Service (other_command station (head_in s m) (body_in name more)) (omega arith) e
 
   -- what is judged of a line that is neither bad nor silent
   through : (long silent : Bool) (l m : Line A) → 5 ≤ case m → (if long then Bad TooLong else (if silent then Silent else l)) ≡ m → l ≡ m
@@ -134,6 +155,11 @@ module _ (A : Type 0) where
       let f = words_own station (words line) said (through (nat_lt longest_line (length line)) (is_silent line) (of_words station (words line)) (OwnStation said) (omega arith) e) in
       (f.0, sym (join_with_byte-slice_split 32 line) ∙ ap spaced f.1)
 
+  pub only_service : OnlyService A
+  only_service station line e =
+      let f = words_service station (words line) (through (nat_lt longest_line (length line)) (is_silent line) (of_words station (words line)) Service (omega arith) e) in
+      sym (join_with_byte-slice_split 32 line) ∙ ap spaced f
+
   -- ---- the other way round
 
   pub all_marks : AllMarks A
@@ -147,6 +173,10 @@ module _ (A : Type 0) where
   all_own station = passes station station_line (OwnStation station) (omega arith) refl
       (ap (λ ws. of_words station ws) (words_back (codes "station") [] (letters_lack (codes "station") refl, tt)))
 
+  pub all_service : AllService A
+  all_service station = passes station service_line Service (omega arith) refl
+      (ap (λ ws. of_words station ws) (words_back (codes "service") [] (letters_lack (codes "service") refl, tt)))
+
   -- ---- what a line says alone is not forbidden
 
   no_order : (o : Option (List ℕ)) (n : ℕ) → marked {A = A} o ≡ Forbidden n → ⊥
@@ -155,7 +185,8 @@ module _ (A : Type 0) where
 
   words_permit : (station : ℕ) (ws : List (List ℕ)) (sequence : ℕ) → of_words {A = A} station ws ≡ Forbidden sequence → ⊥
   words_permit station [] sequence e = not_other (Bad Syntax) (Forbidden sequence) (omega arith) (omega arith) e
-  words_permit station (name ∷ []) sequence e = of_alone station name (Forbidden sequence) (omega arith) (λ is same. omega (arith, same_case (OwnStation station) (Forbidden sequence) same)) e
+  words_permit station (name ∷ []) sequence e = of_alone station name (Forbidden sequence) (omega arith) (λ is same. omega (arith, same_case (OwnStation station) (Forbidden sequence) same))
+      (λ is same. omega (arith, same_case Service (Forbidden sequence) same)) e
   words_permit station (name ∷ word ∷ []) sequence e =
       line_else (bytes_eq name (codes "mark")) (marked (mark_in word)) _ (Forbidden sequence) (λ is same. no_order (mark_in word) sequence same)
       (λ same. not_other (listing_or (listing_in name word) (query_in name word)) (Forbidden sequence) (other_two (listing_in name word) (query_in name word)) (omega arith) same) e

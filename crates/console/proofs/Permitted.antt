@@ -4,7 +4,7 @@ use Rattle.identity.proofs.Texts.{none_some, some_same}
 use Rattle.centre_core.specs.declared.command.Body.{Body}
 use Rattle.centre_core.specs.declared.command.Body.TheVariants.{RuleSet, RuleClear, Mm, Sds, GroupSds, Sent, Expire, Delete}
 use Rattle.console.specs.declared.line.Line.{Line}
-use Rattle.console.specs.declared.line.Line.TheVariants.{Silent, Bad, Apply, Ask, Print, Mark, OwnStation, Forbidden}
+use Rattle.console.specs.declared.line.Line.TheVariants.{Silent, Bad, Apply, Ask, Print, Mark, OwnStation, Service, Forbidden}
 use Rattle.console.specs.declared.answer.Answer.TheVariants.{CommandOutage}
 use Rattle.console.specs.Reading.{HasPdu, is_order, permitted, sequence_of, with_pdu}
 use Rattle.console.specs.Dialogue.{AnswersReading}
@@ -33,6 +33,7 @@ module _ {A : Type 0} where
   pdu_permitted false (Print l) n e = e
   pdu_permitted false (Mark word) n e = e
   pdu_permitted false (OwnStation own) n e = e
+  pdu_permitted false Service n e = e
   pdu_permitted false (Forbidden order) n e = e
 
   with_pdu_only : (k n : ℕ) (body : Body A) → with_pdu k body ≡ Some n → HasPdu body × (n ≡ k)
@@ -54,4 +55,5 @@ module _ {A : Type 0} where
   pdu_outage rules number s (Print l) n e = absurd (none_some n e)
   pdu_outage rules number s (Mark word) n e = absurd (none_some n e)
   pdu_outage rules number s (OwnStation own) n e = absurd (none_some n e)
+  pdu_outage rules number s Service n e = absurd (none_some n e)
   pdu_outage rules number s (Forbidden order) n e = absurd (none_some n e)

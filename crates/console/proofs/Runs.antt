@@ -1,11 +1,11 @@
 -- A run over a reader and a writer that are answered otherwise.
-use Rattle.std.proofs.Common.{◌≡◌, ℕ, List, ◌++◌, Option, Result, subst}
+use Rattle.std.proofs.Common.{◌≡◌, ℕ, List, Option, Result, subst}
 use Rattle.console.specs.declared.running.Ran.{Ran}
 use Rattle.console.specs.declared.running.RunFault.{RunFault}
 use Rattle.desk.specs.Rules.{Rules}
 use Rattle.console.specs.Events.{Event}
 use Rattle.console.specs.Runs.{IsRun}
-use Rattle.console.specs.Told.{IsTold}
+use Rattle.console.specs.Told.{Streams, Tells}
 use Rattle.console.specs.Reading.{Speaker}
 
 module _ (A : Type 0) {W : Type 0} (rules : Rules A W) (speaker : Speaker) (s t : W) (r : Result Ran RunFault) where
@@ -26,9 +26,10 @@ run_left A rules speaker s r {given = given} {held = held} t now {now' = now'} s
     subst (λ u. Runs A rules speaker s u r given held now') stands (subst (λ (n : Option (List ℕ)). Runs A rules speaker s t r given held n) leaves run)
 
 -- what it told, by the same
-module _ (A : Type 0) {W : Type 0} (rules : Rules A W) (speaker : Speaker) (s : W) (r : Result Ran RunFault) (was read : List ℕ) (old : List Event) where
-  abbrev pub Tells : W → List Event → Type 0
-  Tells t now = (given : List ℕ) × (events : List Event) × (read ≡ was ++ given) × (now ≡ old ++ events) × IsTold A rules speaker s t given events r
-
-  pub told_left : (t : W) (now : List Event) {t' : W} {now' : List Event} → t ≡ t' → now ≡ now' → Tells t now → Tells t' now'
-  told_left t now stands leaves told = subst (λ (q : W × List Event). Tells q.0 q.1) (λ j. (stands j, leaves j)) told
+module _ (A : Type 0) {W : Type 0} (rules : Rules A W) (speaker : Speaker) (s : W) (r : Result Ran RunFault) (old : Streams) (read : List ℕ) (unread : Option (List ℕ)) where
+  pub told_left : (t : W) (passed : List Event) (held : Option (List ℕ)) {t' : W} {passed' : List Event} {held' : Option (List ℕ)} → t ≡ t' → passed ≡ passed' → held ≡ held' →
+      Tells A rules speaker s t old (record { read = read; unread = unread; passed = passed; held = held }) r →
+      Tells A rules speaker s t' old (record { read = read; unread = unread; passed = passed'; held = held' }) r
+  told_left t passed held stands passes holds told =
+      subst (λ (q : W × List Event × Option (List ℕ)). Tells A rules speaker s q.0 old (record { read = read; unread = unread; passed = q.1; held = q.2 }) r)
+      (λ j. (stands j, passes j, holds j)) told

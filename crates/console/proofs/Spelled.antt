@@ -26,14 +26,14 @@ use Rattle.centre_core.specs.declared.command.Body.TheVariants.{RuleSet, RuleCle
 use Rattle.centre_core.specs.declared.query.Query.{Query}
 use Rattle.centre_core.specs.declared.query.Query.TheVariants.{Whereabouts, Look, GroupsOf, MembersOf, Waiting, Total}
 use Rattle.listings.specs.declared.listing.Listing.{Listing}
-use Rattle.listings.specs.declared.listing.Listing.TheVariants.{Entries, Last, Room}
+use Rattle.listings.specs.declared.listing.Listing.TheVariants.{Entries, Last, Room, Dump}
 use Rattle.listings.specs.declared.listing.Table.TheVariants.{Rules, Radios, Items}
 use Rattle.console.specs.declared.body.Head.{Head}
 use Rattle.console.specs.declared.line.LineFault.{LineFault}
 use Rattle.console.specs.declared.line.LineFault.TheVariants.{Syntax, Value, TooLong}
 use Rattle.console.specs.declared.line.Line.{Line}
-use Rattle.console.specs.declared.line.Line.TheVariants.{Silent, Bad, Apply, Ask, Print, Mark, OwnStation}
-use Rattle.console.specs.Reading.{words, of_words, is_silent, longest_line, seconds_in, not_zero, sequence_in, head_of, head_in, area_in, lifetime_in, rule_of, rule_in, reference_in, kind_in, key_of, key_in, rule_body, mm_body, sds_body, group_sds_body, body_in, command_line, saying, query_in, ask, prefix_in, station_in, radios_under, due_at, listing_in, listing_or, print, marked, of_word}
+use Rattle.console.specs.declared.line.Line.TheVariants.{Silent, Bad, Apply, Ask, Print, Mark, OwnStation, Service}
+use Rattle.console.specs.Reading.{words, of_words, is_silent, longest_line, seconds_in, not_zero, sequence_in, head_of, head_in, area_in, lifetime_in, rule_of, rule_in, reference_in, kind_in, key_of, key_in, rule_body, mm_body, sds_body, group_sds_body, body_in, command_line, saying, query_in, ask, prefix_in, station_in, radios_under, due_at, waiting_at, listing_in, listing_or, print, marked, of_word}
 use Rattle.console.specs.Mark.{mark_in}
 use Rattle.mailbox.specs.Values.{KeyInRange}
 use Rattle.centre_core.specs.Ranges.{BodyInRange, InRange}
@@ -167,6 +167,12 @@ due_spelled name word l is e =
     let read = number_only 4294967295 f.0 word (omega arith) f.1 in
     part_spelled (codes "due") name word l (due_at f.0) (decimal f.0) (omega (arith, read.0)) refl read.1 f.2 is
 
+waiting_spelled : (name word : List ℕ) (l : Listing) → bytes_eq name (codes "waiting") ≡ true → saying waiting_at (station_in word) ≡ Ok l → Lists l (name ∷ word ∷ [])
+waiting_spelled name word l is e =
+    let f = saying_only waiting_at (station_in word) l e in
+    let read = number_only 65535 f.0 word (omega arith) f.1 in
+    part_spelled (codes "waiting") name word l (waiting_at f.0) (decimal f.0) (omega (arith, read.0)) refl read.1 f.2 is
+
 last_spelled : (name word : List ℕ) (l : Listing) → bytes_eq name (codes "last") ≡ true → saying Last (station_in word) ≡ Ok l → Lists l (name ∷ word ∷ [])
 last_spelled name word l is e =
     let f = saying_only Last (station_in word) l e in
@@ -177,8 +183,9 @@ listing_spelled : (name word : List ℕ) (l : Listing) → listing_in name word 
 listing_spelled name word l e =
     listing_else (bytes_eq name (codes "radios")) (saying radios_under (prefix_in word)) _ l (radios_spelled name word l)
     (listing_else (bytes_eq name (codes "due")) (saying due_at (seconds_in word)) _ l (due_spelled name word l)
+    (listing_else (bytes_eq name (codes "waiting")) (saying waiting_at (station_in word)) _ l (waiting_spelled name word l)
     (listing_else (bytes_eq name (codes "last")) (saying Last (station_in word)) None l (last_spelled name word l)
-    (λ none. absurd (no_listing l none)))) e
+    (λ none. absurd (no_listing l none))))) e
 
 -- ---- commands
 
@@ -412,6 +419,15 @@ module _ {A : Type 0} where
   own_print : (n : ℕ) (l : Listing) (e : (let line : Line A = OwnStation n in line) ≡ Print l) → ⊥
   own_print n l e = cc
 
+  service_command : (c : Command A) (e : (let l : Line A = Service in l) ≡ Apply c) → ⊥
+  service_command c e = cc
+
+  service_ask : (q : Query) (e : (let l : Line A = Service in l) ≡ Ask q) → ⊥
+  service_ask q e = cc
+
+  service_print : (l : Listing) (e : (let line : Line A = Service in line) ≡ Print l) → ⊥
+  service_print l e = cc
+
   -- one of two lines, each of which gives the same
   pub line_else : {P : Type 0} (b : Bool) (x y l : Line A) → (b ≡ true → x ≡ l → P) → (y ≡ l → P) → (if b then x else y) ≡ l → P
   line_else true x y l first second e = first refl e
@@ -448,7 +464,9 @@ module _ {A : Type 0} where
       (line_else (bytes_eq name (codes "radios")) (Print (Entries (Radios None))) _ (Apply c) (λ is same. print_command (Entries (Radios None)) c same)
       (line_else (bytes_eq name (codes "items")) (Print (Entries Items)) _ (Apply c) (λ is same. print_command (Entries Items) c same)
       (line_else (bytes_eq name (codes "room")) (Print Room) _ (Apply c) (λ is same. print_command Room c same)
-      (line_else (bytes_eq name (codes "station")) (OwnStation station) (Bad Syntax) (Apply c) (λ is same. own_command station c same) (λ same. bad_command Syntax c same)))))) e
+      (line_else (bytes_eq name (codes "dump")) (Print Dump) _ (Apply c) (λ is same. print_command Dump c same)
+      (line_else (bytes_eq name (codes "station")) (OwnStation station) _ (Apply c) (λ is same. own_command station c same)
+      (line_else (bytes_eq name (codes "service")) Service (Bad Syntax) (Apply c) (λ is same. service_command c same) (λ same. bad_command Syntax c same)))))))) e
 
   word_asked : (station : ℕ) (name : List ℕ) (q : Query) → of_word {A = A} station name ≡ Ask q → Asks q (name ∷ [])
   word_asked station name q e =
@@ -457,7 +475,9 @@ module _ {A : Type 0} where
       (line_else (bytes_eq name (codes "radios")) (Print (Entries (Radios None))) _ (Ask q) (λ is same. absurd (print_ask (Entries (Radios None)) q same))
       (line_else (bytes_eq name (codes "items")) (Print (Entries Items)) _ (Ask q) (λ is same. absurd (print_ask (Entries Items) q same))
       (line_else (bytes_eq name (codes "room")) (Print Room) _ (Ask q) (λ is same. absurd (print_ask Room q same))
-      (line_else (bytes_eq name (codes "station")) (OwnStation station) (Bad Syntax) (Ask q) (λ is same. absurd (own_ask station q same)) (λ same. absurd (bad_ask Syntax q same))))))) e
+      (line_else (bytes_eq name (codes "dump")) (Print Dump) _ (Ask q) (λ is same. absurd (print_ask Dump q same))
+      (line_else (bytes_eq name (codes "station")) (OwnStation station) _ (Ask q) (λ is same. absurd (own_ask station q same))
+      (line_else (bytes_eq name (codes "service")) Service (Bad Syntax) (Ask q) (λ is same. absurd (service_ask q same)) (λ same. absurd (bad_ask Syntax q same))))))))) e
 
   -- a listing that is named by a word alone
   alone : (keyword name : List ℕ) (k l : Listing) → Listable k → keyword ≡ listing_line k → bytes_eq name keyword ≡ true → (e : (let line : Line A = Print k in line) ≡ Print l) → Lists l (name ∷ [])
@@ -470,7 +490,9 @@ module _ {A : Type 0} where
       (line_else (bytes_eq name (codes "radios")) (Print (Entries (Radios None))) _ (Print l) (alone (codes "radios") name (Entries (Radios None)) l tt refl)
       (line_else (bytes_eq name (codes "items")) (Print (Entries Items)) _ (Print l) (alone (codes "items") name (Entries Items) l tt refl)
       (line_else (bytes_eq name (codes "room")) (Print Room) _ (Print l) (alone (codes "room") name Room l tt refl)
-      (line_else (bytes_eq name (codes "station")) (OwnStation station) (Bad Syntax) (Print l) (λ is same. absurd (own_print station l same)) (λ same. absurd (bad_print Syntax l same))))))) e
+      (line_else (bytes_eq name (codes "dump")) (Print Dump) _ (Print l) (alone (codes "dump") name Dump l tt refl)
+      (line_else (bytes_eq name (codes "station")) (OwnStation station) _ (Print l) (λ is same. absurd (own_print station l same))
+      (line_else (bytes_eq name (codes "service")) Service (Bad Syntax) (Print l) (λ is same. absurd (service_print l same)) (λ same. absurd (bad_print Syntax l same))))))))) e
 
   ask_only : (r : Result Query LineFault) (q : Query) (e : ask {A = A} r ≡ Ask q) → r ≡ Ok q
   ask_only (Ok p) q e = ap (λ (o : Query). let r : Result Query LineFault = Ok o in r) (ask_same p q e)

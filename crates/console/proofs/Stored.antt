@@ -12,12 +12,12 @@ use Rattle.desk.specs.OfRegister.{of_register}
 use Rattle.desk.specs.OfStore.{Stored, Refuses, StoreApplies, StoreAnswers, StoreReads, of_store}
 use Rattle.listings.specs.declared.listing.Listing.{Listing}
 use Rattle.console.specs.declared.line.Line.{Line}
-use Rattle.console.specs.declared.line.Line.TheVariants.{Silent, Bad, Apply, Ask, Print, Mark, OwnStation, Forbidden}
+use Rattle.console.specs.declared.line.Line.TheVariants.{Silent, Bad, Apply, Ask, Print, Mark, OwnStation, Service, Forbidden}
 use Rattle.console.specs.declared.answer.Answer.{Answer}
 use Rattle.console.specs.declared.answer.Answer.TheVariants as answer
 use Rattle.console.specs.Answer.{is_outage}
 use Rattle.console.specs.Reading.{Speaker, heard}
-use Rattle.console.specs.Dialogue.{AnswersReading, AnswersCommand, AnswersQuery, AnswersListing, Dialogue, LacksPdu}
+use Rattle.console.specs.Dialogue.{AnswersReading, AnswersCommand, AnswersQuery, AnswersListing, AnswersService, Dialogue, LacksPdu}
 use Rattle.console.specs.Stored.{SaysBroken, BrokenAfterDevice, RegisterAtDevice, StoredAsRegister}
 use Rattle.console.proofs.Wholes.{or_left, or_right}
 
@@ -74,6 +74,8 @@ module _ {A : Type 0} where
   on_command s t c answer.Quiet broken given = absurd given
   on_command s t c (answer.Marked word) broken given = absurd given
   on_command s t c (answer.OwnStation own) broken given = absurd given
+  on_command s t c (answer.Service lines) broken given = absurd given
+  on_command s t c (answer.ServiceOutage line) broken given = absurd given
   on_command s t c (answer.Forbidden order) broken given = absurd given
   on_command s t c (answer.Bad line fault) broken given = absurd given
   on_command s t c (answer.Queried query_answer) broken given = absurd given
@@ -89,6 +91,8 @@ module _ {A : Type 0} where
   on_query n s t q answer.Quiet broken given = absurd given
   on_query n s t q (answer.Marked word) broken given = absurd given
   on_query n s t q (answer.OwnStation own) broken given = absurd given
+  on_query n s t q (answer.Service lines) broken given = absurd given
+  on_query n s t q (answer.ServiceOutage line) broken given = absurd given
   on_query n s t q (answer.Forbidden order) broken given = absurd given
   on_query n s t q (answer.Bad line fault) broken given = absurd given
   on_query n s t q (answer.Replied sequence reply) broken given = absurd given
@@ -104,17 +108,34 @@ module _ {A : Type 0} where
   on_listing n s t l answer.Quiet broken given = absurd given
   on_listing n s t l (answer.Marked word) broken given = absurd given
   on_listing n s t l (answer.OwnStation own) broken given = absurd given
+  on_listing n s t l (answer.Service lines) broken given = absurd given
+  on_listing n s t l (answer.ServiceOutage line) broken given = absurd given
   on_listing n s t l (answer.Forbidden order) broken given = absurd given
   on_listing n s t l (answer.Bad line fault) broken given = absurd given
   on_listing n s t l (answer.Replied sequence reply) broken given = absurd given
   on_listing n s t l (answer.CommandOutage sequence word) broken given = absurd given
   on_listing n s t l (answer.Queried query_answer) broken given = absurd given
 
+  on_service : (n : ℕ) (a : Answer A) → AnswersService n a → SaysBroken a
+  on_service n (answer.Service lines) given = tt
+  on_service n (answer.ServiceOutage line) given = tt
+  on_service n answer.Quiet given = absurd given
+  on_service n (answer.Marked word) given = absurd given
+  on_service n (answer.OwnStation own) given = absurd given
+  on_service n (answer.Forbidden order) given = absurd given
+  on_service n (answer.Bad line fault) given = absurd given
+  on_service n (answer.Replied sequence reply) given = absurd given
+  on_service n (answer.CommandOutage sequence word) given = absurd given
+  on_service n (answer.Queried query_answer) given = absurd given
+  on_service n (answer.Listed lines) given = absurd given
+  on_service n (answer.QueryOutage line word) given = absurd given
+
   on_reading : (n : ℕ) (s t : Stored) (line : Line A) (a : Answer A) → s.broken ≡ true → AnswersReading of_store n s line a t → Stays a s t
   on_reading n s t Silent a broken given = (subst (λ (b : Answer A). SaysBroken b) (sym given.0) tt, given.1)
   on_reading n s t (Bad fault) a broken given = (subst (λ (b : Answer A). SaysBroken b) (sym given.0) tt, given.1)
   on_reading n s t (Mark word) a broken given = (subst (λ (b : Answer A). SaysBroken b) (sym given.0) tt, given.1)
   on_reading n s t (OwnStation own) a broken given = (subst (λ (b : Answer A). SaysBroken b) (sym given.0) tt, given.1)
+  on_reading n s t Service a broken given = (on_service n a given.0, given.1)
   on_reading n s t (Forbidden order) a broken given = (subst (λ (b : Answer A). SaysBroken b) (sym given.0) tt, given.1)
   on_reading n s t (Apply c) a broken given = on_command s t c a broken given
   on_reading n s t (Ask q) a broken given = on_query n s t q a broken given
@@ -144,6 +165,7 @@ module _ {A : Type 0} where
   device_breaks n sequence s t (Bad fault) given = absurd (true≢false (ap is_outage given.0))
   device_breaks n sequence s t (Mark word) given = absurd (true≢false (ap is_outage given.0))
   device_breaks n sequence s t (OwnStation own) given = absurd (true≢false (ap is_outage given.0))
+  device_breaks n sequence s t Service given = absurd given.0
   device_breaks n sequence s t (Forbidden order) given = absurd (true≢false (ap is_outage given.0))
   device_breaks n sequence s t (Apply c) given = elim given.1 [
     | inl says ↦ (says.1, says.2)
@@ -176,6 +198,8 @@ module _ {A : Type 0} where
   as_command s t c answer.Quiet given calm = absurd given
   as_command s t c (answer.Marked word) given calm = absurd given
   as_command s t c (answer.OwnStation own) given calm = absurd given
+  as_command s t c (answer.Service lines) given calm = absurd given
+  as_command s t c (answer.ServiceOutage line) given calm = absurd given
   as_command s t c (answer.Forbidden order) given calm = absurd given
   as_command s t c (answer.Bad line fault) given calm = absurd given
   as_command s t c (answer.Queried query_answer) given calm = absurd given
@@ -188,6 +212,8 @@ module _ {A : Type 0} where
   as_query n s t q answer.Quiet given calm = absurd given
   as_query n s t q (answer.Marked word) given calm = absurd given
   as_query n s t q (answer.OwnStation own) given calm = absurd given
+  as_query n s t q (answer.Service lines) given calm = absurd given
+  as_query n s t q (answer.ServiceOutage line) given calm = absurd given
   as_query n s t q (answer.Forbidden order) given calm = absurd given
   as_query n s t q (answer.Bad line fault) given calm = absurd given
   as_query n s t q (answer.Replied sequence reply) given calm = absurd given
@@ -201,6 +227,8 @@ module _ {A : Type 0} where
   as_listing n s t l answer.Quiet given calm = absurd given
   as_listing n s t l (answer.Marked word) given calm = absurd given
   as_listing n s t l (answer.OwnStation own) given calm = absurd given
+  as_listing n s t l (answer.Service lines) given calm = absurd given
+  as_listing n s t l (answer.ServiceOutage line) given calm = absurd given
   as_listing n s t l (answer.Forbidden order) given calm = absurd given
   as_listing n s t l (answer.Bad line fault) given calm = absurd given
   as_listing n s t l (answer.Replied sequence reply) given calm = absurd given
@@ -211,6 +239,7 @@ module _ {A : Type 0} where
   as_reading n s t (Bad fault) a given calm = (given.0, ap (λ (w : Stored). w.register) given.1)
   as_reading n s t (Mark word) a given calm = (given.0, ap (λ (w : Stored). w.register) given.1)
   as_reading n s t (OwnStation own) a given calm = (given.0, ap (λ (w : Stored). w.register) given.1)
+  as_reading n s t Service a given calm = (given.0, ap (λ (w : Stored). w.register) given.1)
   as_reading n s t (Forbidden order) a given calm = (given.0, ap (λ (w : Stored). w.register) given.1)
   as_reading n s t (Apply c) a given calm = as_command s t c a given calm
   as_reading n s t (Ask q) a given calm = as_query n s t q a given calm

@@ -33,13 +33,13 @@ use Rattle.centre_core.specs.declared.command.Body.TheVariants.{RuleSet, RuleCle
 use Rattle.centre_core.specs.declared.query.Query.{Query}
 use Rattle.centre_core.specs.declared.query.Query.TheVariants.{Whereabouts, Look, GroupsOf, MembersOf, Waiting, Total}
 use Rattle.listings.specs.declared.listing.Listing.{Listing}
-use Rattle.listings.specs.declared.listing.Listing.TheVariants.{Entries, Last, Room}
-use Rattle.listings.specs.declared.listing.Table.TheVariants.{Rules, Radios, Items, Due}
+use Rattle.listings.specs.declared.listing.Listing.TheVariants.{Entries, Last, Room, Dump}
+use Rattle.listings.specs.declared.listing.Table.TheVariants.{Rules, Radios, Items, Due, WaitingAt}
 use Rattle.console.specs.declared.body.Head.{Head}
 use Rattle.console.specs.declared.line.LineFault.{LineFault}
 use Rattle.console.specs.declared.line.Line.{Line}
 use Rattle.console.specs.declared.line.Line.TheVariants.{Apply, Ask, Print}
-use Rattle.console.specs.Reading.{Lacks, words, of_words, reading, is_silent, longest_line, seconds_in, not_zero, sequence_in, head_of, head_in, area_in, lifetime_in, rule_of, rule_in, reference_in, kind_in, key_of, key_in, rule_body, mm_body, sds_body, group_sds_body, body_in, command_line, saying, ask, prefix_in, station_in, radios_under, due_at, print, of_two}
+use Rattle.console.specs.Reading.{Lacks, words, of_words, reading, is_silent, longest_line, seconds_in, not_zero, sequence_in, head_of, head_in, area_in, lifetime_in, rule_of, rule_in, reference_in, kind_in, key_of, key_in, rule_body, mm_body, sds_body, group_sds_body, body_in, command_line, saying, ask, prefix_in, station_in, radios_under, due_at, waiting_at, print, of_two}
 use Rattle.listings.specs.Words.{kind_word}
 use Rattle.mailbox.specs.Values.{KeyInRange}
 use Rattle.centre_core.specs.Ranges.{BodyInRange}
@@ -322,7 +322,7 @@ module _ {A : Type 0} where
 
   -- a listing of a part
   part_again : (station : ℕ) (keyword word : List ℕ) (l : Listing) → list_all (λ b. not (b == 32)) keyword ≡ true → Lacks 32 word → of_two {A = A} keyword word ≡ Print l →
-      is_silent (spaced (keyword ∷ word ∷ [])) ≡ false → length keyword ≤ 6 → length word ≤ 83 → reading {A = A} station (spaced (keyword ∷ word ∷ [])) ≡ Print l
+      is_silent (spaced (keyword ∷ word ∷ [])) ≡ false → length keyword ≤ 7 → length word ≤ 83 → reading {A = A} station (spaced (keyword ∷ word ∷ [])) ≡ Print l
   part_again station keyword word l letters lacks said speaks few short =
       let whole : length (keyword ++ 32 ∷ word) ≡ length keyword + length (32 ∷ word) = length-append keyword (32 ∷ word) in
       passes station (spaced (keyword ∷ word ∷ [])) (Print l) (omega (arith, whole, few, short)) speaks
@@ -339,8 +339,13 @@ module _ {A : Type 0} where
       part_again station (codes "due") (decimal moment) (due_at moment) refl (decimal_lacks moment (omega (arith, range)))
       (ap (λ r. print {A = A} r) (saying_again due_at (seconds_in (decimal moment)) moment (seconds_again moment range))) refl (omega arith)
       (let fits = decimal_fits moment (omega (arith, range)) in omega (arith, fits))
+  all_listings station (Entries (WaitingAt n)) range =
+      part_again station (codes "waiting") (decimal n) (waiting_at n) refl (decimal_lacks n (omega (arith, range)))
+      (ap (λ r. print {A = A} r) (saying_again waiting_at (station_in (decimal n)) n (station_again n range))) refl (omega arith)
+      (let fits = decimal_fits n (omega (arith, range)) in omega (arith, fits))
   all_listings station (Last n) range =
       part_again station (codes "last") (decimal n) (Last n) refl (decimal_lacks n (omega (arith, range)))
       (ap (λ r. print {A = A} r) (saying_again Last (station_in (decimal n)) n (station_again n range))) refl (omega arith)
       (let fits = decimal_fits n (omega (arith, range)) in omega (arith, fits))
   all_listings station Room range = alone_again station (codes "room") Room refl refl refl (omega arith)
+  all_listings station Dump range = alone_again station (codes "dump") Dump refl refl refl (omega arith)

@@ -1,5 +1,6 @@
 -- What passes by the writer of a run, a part after another.
-use Rattle.std.proofs.Common.{◌≡◌, ℕ, ◌≤◌, List, [], ◌∷◌, ◌++◌, length, take, drop, refl, sym, ◌∙◌, ap, subst, append_assoc, Result, Some, Ok, Err}
+use Rattle.std.proofs.Common.{◌≡◌, ℕ, ◌+◌, ◌<◌, ◌≤◌, List, [], ◌∷◌, ◌++◌, length, take, drop, refl, sym, ◌∙◌, ap, subst, arith, append_assoc, length-append, inl, inr, Option, Result, Some, Ok, Err}
+use Rattle.std.specs.Prelude.{IfErr, IfOk, OnErr, OnOk}
 use Rattle.std.specs.List.{list_any}
 use Rattle.std.specs.Str.Lines.{lines}
 use Rattle.std.proofs.lemmas.List.{append-nil, take-append-drop}
@@ -7,23 +8,29 @@ use Rattle.std.proofs.lemmas.List.Concat.{flat_map-append}
 use Rattle.std.proofs.lemmas.Result.{IfOk-weaker, on_err_weaker}
 use Rattle.console.specs.declared.running.Ran.{Ran}
 use Rattle.console.specs.declared.running.RunFault.{RunFault}
+use Rattle.console.specs.declared.running.RunFault.TheVariants as fault
+use Rattle.console.specs.declared.running.RunFault.TheVariants.{Write}
 use Rattle.console.specs.declared.answer.Answer.{Answer}
 use Rattle.console.specs.Answer.{text, texts, is_trouble}
 use Rattle.desk.specs.Rules.{Rules}
 use Rattle.console.specs.Dialogue.{Dialogue}
-use Rattle.console.specs.Events.{Event, Read, Answered, Wrote, bytes_read, text_answered, bytes_written, read_by, answered_by, written_by, OnlyAnswers}
-use Rattle.console.specs.Told.{IsTold}
+use Rattle.console.specs.Events.{Event, Read, ReadFailed, Answered, Wrote, WriteFailed, bytes_read, text_answered, bytes_written, read_by, answered_by, written_by, read_failures, write_failures, OnlyAnswers}
+use Rattle.console.specs.Failures.{failures_reported}
+use Rattle.console.specs.Told.{EndsFor, EndsSince, GaveFirst, Tells}
 use Rattle.console.specs.Runs.{Start, HasRun}
-use Rattle.console.specs.Inside.Passing.{Leaves, Passes, PassesPart, Sent}
-use Rattle.console.specs.Inside.Feed.{HasEnded}
+use Rattle.console.specs.Inside.Passing.{Follows, Leaves, Passes, PassesPart, Sent}
+use Rattle.console.specs.Inside.Feed.{HasCalled, HasEnded}
+use Rattle.console.proofs.Answering.{never_memory, never_read}
 
 -- ---- only what waits is written
 
 leaves_on : (p q r : List ℕ) (first second : List Event) → Leaves p first q → Leaves q second r → Leaves p (first ++ second) r
 leaves_on p q r [] second is also = subst (λ (w : List ℕ). Leaves w second r) is also
 leaves_on p q r (Read bytes ∷ first) second is also = leaves_on p q r first second is also
+leaves_on p q r (ReadFailed ∷ first) second is also = leaves_on p q r first second is also
 leaves_on p q r (Answered text ∷ first) second is also = leaves_on (p ++ text) q r first second is also
 leaves_on p q r (Wrote bytes ∷ first) second is also = (is.0, is.1, leaves_on is.0 q r first second is.2 also)
+leaves_on p q r (WriteFailed ∷ first) second is also = leaves_on p q r first second is also
 
 -- one write more, and what is written and waits
 wrote_one : (p bytes rest answered written left : List ℕ) → p ≡ bytes ++ rest → rest ++ answered ≡ written ++ left → p ++ answered ≡ (bytes ++ written) ++ left
@@ -34,49 +41,104 @@ wrote_one p bytes rest answered written left is also =
 balance : (p r : List ℕ) (events : List Event) → Leaves p events r → p ++ answered_by events ≡ written_by events ++ r
 balance p r [] is = append-nil p ∙ sym is
 balance p r (Read bytes ∷ events) is = balance p r events is
+balance p r (ReadFailed ∷ events) is = balance p r events is
 balance p r (Answered text ∷ events) is = sym (append_assoc p text (answered_by events)) ∙ balance (p ++ text) r events is
 balance p r (Wrote bytes ∷ events) is = wrote_one p bytes is.0 (answered_by events) (written_by events) r is.1 (balance is.0 r events is.2)
+balance p r (WriteFailed ∷ events) is = balance p r events is
 
 -- so it is at each moment
 at_moment : (p r : List ℕ) (before after : List Event) → Leaves p (before ++ after) r → (waiting : List ℕ) × (p ++ answered_by before ≡ written_by before ++ waiting)
 at_moment p r [] after is = (p, append-nil p)
 at_moment p r (Read bytes ∷ before) after is = at_moment p r before after is
+at_moment p r (ReadFailed ∷ before) after is = at_moment p r before after is
 at_moment p r (Answered text ∷ before) after is =
     let more = at_moment (p ++ text) r before after is in
     (more.0, sym (append_assoc p text (answered_by before)) ∙ more.1)
 at_moment p r (Wrote bytes ∷ before) after is =
     let more = at_moment is.0 r before after is.2 in
     (more.0, wrote_one p bytes is.0 (answered_by before) (written_by before) more.0 is.1 more.1)
+at_moment p r (WriteFailed ∷ before) after is = at_moment p r before after is
 
 only_answers : (r : List ℕ) (events : List Event) → Leaves [] events r → OnlyAnswers events
 only_answers r events is before after parts = at_moment [] r before after (subst (λ (all : List Event). Leaves [] all r) parts is)
 
+-- ---- failures
+
+-- failures of the reader add up
+pub read_failures-append : (first second : List Event) → read_failures (first ++ second) ≡ read_failures first + read_failures second
+read_failures-append [] second = omega arith
+read_failures-append (Read bytes ∷ first) second = read_failures-append first second
+read_failures-append (ReadFailed ∷ first) second = omega (arith, read_failures-append first second)
+read_failures-append (Answered text ∷ first) second = read_failures-append first second
+read_failures-append (Wrote bytes ∷ first) second = read_failures-append first second
+read_failures-append (WriteFailed ∷ first) second = read_failures-append first second
+
+-- so do those of the writer
+pub write_failures-append : (first second : List Event) → write_failures (first ++ second) ≡ write_failures first + write_failures second
+write_failures-append [] second = omega arith
+write_failures-append (Read bytes ∷ first) second = write_failures-append first second
+write_failures-append (ReadFailed ∷ first) second = write_failures-append first second
+write_failures-append (Answered text ∷ first) second = write_failures-append first second
+write_failures-append (Wrote bytes ∷ first) second = write_failures-append first second
+write_failures-append (WriteFailed ∷ first) second = omega (arith, write_failures-append first second)
+
 -- ---- from one moment to another
 
 -- nothing passes
-pub nothing_passes : (old new : Sent) (waiting : List ℕ) → new.events ≡ old.events → ((held : List ℕ) → old.bytes ≡ Some held → new.bytes ≡ Some held) → Passes old new waiting [] waiting
-nothing_passes old new waiting same kept = record {
+pub nothing_passes : (old new : Sent) (waiting : List ℕ) → new.events ≡ old.events → new.failures ≡ old.failures → ((held : List ℕ) → old.bytes ≡ Some held → new.bytes ≡ Some held) →
+    Passes old new waiting [] waiting
+nothing_passes old new waiting same none kept = record {
   events = [];
-  follows = (same ∙ sym (append-nil old.events), λ held known. kept held known ∙ ap Some (sym (append-nil held)));
+  follows = (same ∙ sym (append-nil old.events), λ held known. kept held known ∙ ap Some (sym (append-nil held)), omega (arith, none));
   answers = refl;
   only = refl;
 }
 
+-- from a moment to itself
+pub still_passes : (now : Sent) (waiting : List ℕ) → Passes now now waiting [] waiting
+still_passes now waiting = nothing_passes now now waiting refl refl (λ held known. known)
+
+-- the writer fails, and what waits is left
+pub failure_passes : (old new : Sent) (waiting : List ℕ) → new.events ≡ old.events ++ WriteFailed ∷ [] → new.failures ≡ old.failures + 1 →
+    ((held : List ℕ) → old.bytes ≡ Some held → new.bytes ≡ Some held) → Passes old new waiting [] waiting
+failure_passes old new waiting one more kept = record {
+  events = WriteFailed ∷ [];
+  follows = (one, λ held known. kept held known ∙ ap Some (sym (append-nil held)), omega (arith, more));
+  answers = refl;
+  only = refl;
+}
+
+-- a call that failed is one failure
+pub failed_once : (T : Type 0) (e : RunFault) (old new : ℕ) → e ≡ Write → new ≡ old + failures_reported {T = T} (Err e) → new ≡ old + 1
+failed_once T e old new is counted = counted ∙ ap (λ (f : RunFault). old + failures_reported {T = T} (Err f)) is
+
+-- a flush
+pub flush_passes : {T : Type 0} (r : Result T RunFault) (old new : Sent) (waiting : List ℕ) → OnOk r (new.events ≡ old.events) → new.failures ≡ old.failures + failures_reported r →
+    ((held : List ℕ) → old.bytes ≡ Some held → new.bytes ≡ Some held) → OnOk r (Passes old new waiting [] waiting)
+flush_passes (Ok x) old new waiting same counted kept = nothing_passes old new waiting same (omega (arith, counted)) kept
+flush_passes (Err e) old new waiting same counted kept = tt
+
+-- one that fails
+pub flush_fails : {T : Type 0} (r : Result T RunFault) (old new : Sent) (waiting : List ℕ) → OnErr r (new.events ≡ old.events ++ WriteFailed ∷ []) → IfErr r (λ e. e ≡ Write) →
+    new.failures ≡ old.failures + failures_reported r → ((held : List ℕ) → old.bytes ≡ Some held → new.bytes ≡ Some held) → OnErr r (Passes old new waiting [] waiting)
+flush_fails (Ok x) old new waiting one is counted kept = tt
+flush_fails {T = T} (Err e) old new waiting one is counted kept = failure_passes old new waiting one (failed_once T e old.failures new.failures is counted) kept
+
 -- an answer is given
-pub answer_passes : (old new : Sent) (waiting text : List ℕ) → new.events ≡ old.events ++ Answered text ∷ [] → new.bytes ≡ old.bytes → Passes old new waiting text (waiting ++ text)
-answer_passes old new waiting text one same = record {
+pub answer_passes : (old new : Sent) (waiting text : List ℕ) → new.events ≡ old.events ++ Answered text ∷ [] → new.failures ≡ old.failures → new.bytes ≡ old.bytes → Passes old new waiting text (waiting ++ text)
+answer_passes old new waiting text one none same = record {
   events = Answered text ∷ [];
-  follows = (one, λ held known. same ∙ known ∙ ap Some (sym (append-nil held)));
+  follows = (one, λ held known. same ∙ known ∙ ap Some (sym (append-nil held)), omega (arith, none));
   answers = append-nil text;
   only = refl;
 }
 
 -- a prefix of what waits is written
-pub write_passes : (old new : Sent) (waiting : List ℕ) (n : ℕ) → new.events ≡ old.events ++ Wrote (take n waiting) ∷ [] →
+pub write_passes : (old new : Sent) (waiting : List ℕ) (n : ℕ) → new.events ≡ old.events ++ Wrote (take n waiting) ∷ [] → new.failures ≡ old.failures →
     ((held : List ℕ) → old.bytes ≡ Some held → new.bytes ≡ Some (held ++ take n waiting)) → Passes old new waiting [] (drop n waiting)
-write_passes old new waiting n one kept = record {
+write_passes old new waiting n one none kept = record {
   events = Wrote (take n waiting) ∷ [];
-  follows = (one, λ held known. kept held known ∙ ap (λ more. Some (held ++ more)) (sym (append-nil (take n waiting))));
+  follows = (one, λ held known. kept held known ∙ ap (λ more. Some (held ++ more)) (sym (append-nil (take n waiting))), omega (arith, none));
   answers = refl;
   only = (drop n waiting, sym (take-append-drop n waiting), refl);
 }
@@ -90,6 +152,7 @@ passes_on old mid new p x q y r first second = record {
     λ held known. second.follows.1 (held ++ written_by first.events) (first.follows.1 held known)
         ∙ ap Some (append_assoc held (written_by first.events) (written_by second.events)
         ∙ ap (λ more. held ++ more) (sym (flat_map-append bytes_written first.events second.events))),
+    omega (arith, first.follows.2, second.follows.2, write_failures-append first.events second.events),
   );
   answers = flat_map-append text_answered first.events second.events ∙ (λ j. first.answers j ++ second.answers j);
   only = leaves_on p q r first.events second.events first.only second.only;
@@ -177,6 +240,97 @@ pub read_more : (old new : List Event) (base taken bytes : List ℕ) → new ≡
 read_more old new base taken bytes one so =
     ap read_by one ∙ flat_map-append bytes_read old (Read bytes ∷ []) ∙ (λ j. so j ++ append-nil bytes j) ∙ append_assoc base taken bytes
 
-pub told_of : {A W : Type 0} (rules : Rules A W) (start : Start W) (begun now : Sent) (t : W) (r : Result Ran RunFault) (base given all : List ℕ) → all ≡ base ++ given → HasEnded rules start begun given now t r →
-    (taken : List ℕ) × (events : List Event) × (all ≡ base ++ taken) × (now.events ≡ begun.events ++ events) × IsTold A rules start.speaker start.world t taken events r
-told_of rules start begun now t r base given all is so = (given, so.0, is, so.1.0, so.2)
+-- nothing where it failed
+pub read_failed : (old new : List Event) → new ≡ old ++ ReadFailed ∷ [] → read_by new ≡ read_by old
+read_failed old new one = ap read_by one ∙ flat_map-append bytes_read old (ReadFailed ∷ []) ∙ append-nil (read_by old)
+
+pub told_of : {A W : Type 0} (rules : Rules A W) (start : Start W) (begun now : Sent) (t : W) (r : Result Ran RunFault) (base given all : List ℕ) (left : Option (List ℕ)) →
+    all ≡ base ++ given → GaveFirst start.unread given → HasEnded rules start begun given now t r →
+    Tells A rules start.speaker start.world t (record { read = base; unread = start.unread; passed = begun.events; held = begun.bytes })
+    (record { read = all; unread = left; passed = now.events; held = now.bytes }) r
+told_of rules start begun now t r base given all left is first so = (given, so.0, is, first, so.1.0, so.1.1, so.2)
+
+-- ---- why a run ended
+
+-- one more call of the reader
+pub called_more : (base calls old new : List Event) (x : Event) → new ≡ old ++ x ∷ [] → old ≡ base ++ calls → new ≡ base ++ (calls ++ x ∷ [])
+called_more base calls old new x one so = one ∙ ap (λ l. l ++ x ∷ []) so ∙ append_assoc base calls (x ∷ [])
+
+-- it gave bytes
+pub has_called : (base old new : List Event) (bytes : List ℕ) (count more : ℕ) → new ≡ old ++ Read bytes ∷ [] → more ≡ count + 1 → HasCalled base old count → HasCalled base new more
+has_called base old new bytes count more one next so = record {
+  calls = so.calls ++ Read bytes ∷ [];
+  follows = called_more base so.calls old new (Read bytes) one so.follows;
+  counted = omega (arith, length-append so.calls (Read bytes ∷ []), so.counted, next);
+  sound = omega (arith, read_failures-append so.calls (Read bytes ∷ []), so.sound);
+}
+
+module _ (turns : ℕ) (base old : List Event) (count : ℕ) (so : HasCalled base old count) (begun now : Sent) (events : List Event) (follows : Follows begun events now) where
+  -- the failures of the writer that are noted are those that are reported
+  reported : (r : Result Ran RunFault) → now.failures ≡ begun.failures + failures_reported r → write_failures events ≡ failures_reported r
+  reported r counted = omega (arith, counted, follows.2)
+
+  -- the reader failed
+  pub ends_failed : (new : List Event) (e : RunFault) → new ≡ old ++ ReadFailed ∷ [] → count < turns → e ≡ fault.Read → now.failures ≡ begun.failures → EndsSince turns base new begun.events now.events (Err e)
+  ends_failed new e one some is none = subst (λ (f : RunFault). EndsSince turns base new begun.events now.events (Err f)) (sym is) (
+    so.calls ++ ReadFailed ∷ [],
+    events,
+    called_more base so.calls old new ReadFailed one so.follows,
+    follows.0,
+    record {
+      few = omega (arith, length-append so.calls (ReadFailed ∷ []), so.counted, some);
+      whole = tt;
+      read = λ failed. inl (omega (arith, read_failures-append so.calls (ReadFailed ∷ []), so.sound));
+      sound = λ other. absurd (other refl);
+      write = omega (arith, none, follows.2);
+      memory = λ out. absurd cc;
+    },
+  )
+
+  -- it was called as often as it may be
+  pub ends_out : count ≡ turns → now.failures ≡ begun.failures → EndsSince turns base old begun.events now.events (Err fault.Read)
+  ends_out all none = (
+    so.calls,
+    events,
+    so.follows,
+    follows.0,
+    record {
+      few = omega (arith, so.counted, all);
+      whole = tt;
+      read = λ failed. inr (so.counted ∙ all);
+      sound = λ other. absurd (other refl);
+      write = omega (arith, none, follows.2);
+      memory = λ out. absurd cc;
+    },
+  )
+
+  -- it gave bytes, or the end if the run came to it; the writer may have failed
+  pub ends_read : (new : List Event) (bytes : List ℕ) (r : Result Ran RunFault) → new ≡ old ++ Read bytes ∷ [] → count < turns → IfOk r (λ ran. bytes ≡ []) → IfErr r (λ e. e ≡ Write) →
+      now.failures ≡ begun.failures + failures_reported r → EndsSince turns base new begun.events now.events r
+  ends_read new bytes r one some end stops counted = (
+    so.calls ++ Read bytes ∷ [],
+    events,
+    called_more base so.calls old new (Read bytes) one so.follows,
+    follows.0,
+    record {
+      few = omega (arith, length-append so.calls (Read bytes ∷ []), so.counted, some);
+      whole = IfOk-weaker r _ _ (λ ran none. (so.calls, ap (λ l. so.calls ++ Read l ∷ []) none)) end;
+      read = λ failed. absurd (never_read r stops failed);
+      sound = λ other. omega (arith, read_failures-append so.calls (Read bytes ∷ []), so.sound);
+      write = reported r counted;
+      memory = λ out. absurd (never_memory r stops out);
+    },
+  )
+
+-- memory ran out before the first call: nothing passed
+pub ends_without : (turns : ℕ) → EndsFor turns [] [] (Err fault.NoMemory)
+ends_without turns = record { few = omega arith; whole = tt; read = λ failed. absurd cc; sound = λ other. refl; write = refl; memory = λ out. (refl, refl) }
+
+pub ends_at_once : (turns : ℕ) (called passed : List Event) → EndsSince turns called called passed passed (Err fault.NoMemory)
+ends_at_once turns called passed = (
+  [],
+  [],
+  sym (append-nil called),
+  sym (append-nil passed),
+  ends_without turns,
+)

@@ -1,5 +1,5 @@
 -- Each line has an answer, and without outage words one answer.
-use Rattle.std.proofs.Common.{◌≡◌, ℕ, ◌+◌, Bool, true, false, List, [], ◌∷◌, ◌++◌, ◌||◌, length, refl, sym, ◌∙◌, ap, subst, arith, append_assoc, inl}
+use Rattle.std.proofs.Common.{◌≡◌, ℕ, ◌+◌, Bool, true, false, List, [], ◌∷◌, ◌++◌, ◌||◌, length, map, refl, sym, ◌∙◌, ap, subst, arith, append_assoc, inl}
 use Rattle.std.proofs.lemmas.Bool.{true≢false}
 use Rattle.std.proofs.lemmas.List.Concat.{flat_map-append}
 use Rattle.std.specs.List.{list_any}
@@ -11,10 +11,10 @@ use Rattle.centre_core.specs.declared.query.Query.{Query}
 use Rattle.centre_core.specs.declared.query.QueryAnswer.{QueryAnswer}
 use Rattle.centre_core.specs.declared.reply.Reply.{Reply}
 use Rattle.console.specs.declared.line.Line.{Line}
-use Rattle.console.specs.declared.line.Line.TheVariants.{Silent, Bad, Apply, Ask, Print, Mark, OwnStation, Forbidden}
+use Rattle.console.specs.declared.line.Line.TheVariants.{Silent, Bad, Apply, Ask, Print, Mark, OwnStation, Service, Forbidden}
 use Rattle.console.specs.declared.answer.Answer.{Answer}
 use Rattle.console.specs.declared.answer.Answer.TheVariants as answer
-use Rattle.console.specs.Answer.{text, texts, is_trouble, is_outage}
+use Rattle.console.specs.Answer.{text, texts, is_trouble, is_outage, without_figures}
 use Rattle.console.specs.Reading.{Speaker, heard}
 use Rattle.listings.specs.Texts.{listing_text}
 use Rattle.listings.specs.declared.listing.Listing.{Listing}
@@ -22,7 +22,7 @@ use Rattle.desk.specs.Rules.{Rules}
 use Rattle.desk.specs.OfRegister.{of_register}
 use Rattle.desk.specs.OfStore.{Stored, of_store}
 use Rattle.desk.specs.declared.outage.Outage.TheVariants.{Broken}
-use Rattle.console.specs.Dialogue.{AnswersReading, AnswersCommand, AnswersQuery, AnswersListing, Answers, Dialogue, CutOffIsPrefix, OneText}
+use Rattle.console.specs.Dialogue.{AnswersReading, AnswersCommand, AnswersQuery, AnswersListing, AnswersService, Answers, Dialogue, CutOffIsPrefix, OneText}
 
 pub or_left : (a b : Bool) → (a || b) ≡ false → a ≡ false
 or_left true b h = h
@@ -43,6 +43,7 @@ module _ {A : Type 0} where
   in_memory n s (Bad fault) = (answer.Bad n fault, s, (refl, refl))
   in_memory n s (Mark word) = (answer.Marked word, s, (refl, refl))
   in_memory n s (OwnStation own) = (answer.OwnStation own, s, (refl, refl))
+  in_memory n s Service = (answer.ServiceOutage n, s, (refl, refl))
   in_memory n s (Forbidden order) = (answer.Forbidden order, s, (refl, refl))
   in_memory n s (Apply c) = (answer.Replied c.sequence (step s c).1, (step s c).0, (refl, refl))
   in_memory n s (Ask q) = (answer.Queried (answer_to s q), s, (refl, refl))
@@ -66,6 +67,7 @@ module _ {A : Type 0} where
   on_disk n s (Bad fault) = (answer.Bad n fault, s, (refl, refl))
   on_disk n s (Mark word) = (answer.Marked word, s, (refl, refl))
   on_disk n s (OwnStation own) = (answer.OwnStation own, s, (refl, refl))
+  on_disk n s Service = (answer.ServiceOutage n, s, (refl, refl))
   on_disk n s (Forbidden order) = (answer.Forbidden order, s, (refl, refl))
   on_disk n s (Apply c) = command_on_disk n s c s.broken refl
   on_disk n s (Ask q) = query_on_disk n s q s.broken refl
@@ -125,6 +127,8 @@ module _ {A : Type 0} where
   one_command s c (answer.Replied p x) answer.Quiet t u f h calm still = absurd h
   one_command s c (answer.Replied p x) (answer.Marked word) t u f h calm still = absurd h
   one_command s c (answer.Replied p x) (answer.OwnStation own) t u f h calm still = absurd h
+  one_command s c (answer.Replied p x) (answer.Service y) t u f h calm still = absurd h
+  one_command s c (answer.Replied p x) (answer.ServiceOutage m) t u f h calm still = absurd h
   one_command s c (answer.Replied p x) (answer.Forbidden order) t u f h calm still = absurd h
   one_command s c (answer.Replied p x) (answer.Bad n e) t u f h calm still = absurd h
   one_command s c (answer.Replied p x) (answer.Queried query_answer) t u f h calm still = absurd h
@@ -134,6 +138,8 @@ module _ {A : Type 0} where
   one_command s c answer.Quiet b t u f h calm still = absurd f
   one_command s c (answer.Marked word) b t u f h calm still = absurd f
   one_command s c (answer.OwnStation own) b t u f h calm still = absurd f
+  one_command s c (answer.Service x) b t u f h calm still = absurd f
+  one_command s c (answer.ServiceOutage m) b t u f h calm still = absurd f
   one_command s c (answer.Forbidden order) b t u f h calm still = absurd f
   one_command s c (answer.Bad n e) b t u f h calm still = absurd f
   one_command s c (answer.Queried query_answer) b t u f h calm still = absurd f
@@ -146,6 +152,8 @@ module _ {A : Type 0} where
   one_query n s q (answer.Queried x) answer.Quiet t u f h calm still = absurd h
   one_query n s q (answer.Queried x) (answer.Marked word) t u f h calm still = absurd h
   one_query n s q (answer.Queried x) (answer.OwnStation own) t u f h calm still = absurd h
+  one_query n s q (answer.Queried x) (answer.Service y) t u f h calm still = absurd h
+  one_query n s q (answer.Queried x) (answer.ServiceOutage m) t u f h calm still = absurd h
   one_query n s q (answer.Queried x) (answer.Forbidden order) t u f h calm still = absurd h
   one_query n s q (answer.Queried x) (answer.Bad m e) t u f h calm still = absurd h
   one_query n s q (answer.Queried x) (answer.Replied p y) t u f h calm still = absurd h
@@ -155,6 +163,8 @@ module _ {A : Type 0} where
   one_query n s q answer.Quiet b t u f h calm still = absurd f
   one_query n s q (answer.Marked word) b t u f h calm still = absurd f
   one_query n s q (answer.OwnStation own) b t u f h calm still = absurd f
+  one_query n s q (answer.Service x) b t u f h calm still = absurd f
+  one_query n s q (answer.ServiceOutage m) b t u f h calm still = absurd f
   one_query n s q (answer.Forbidden order) b t u f h calm still = absurd f
   one_query n s q (answer.Bad m e) b t u f h calm still = absurd f
   one_query n s q (answer.Replied p y) b t u f h calm still = absurd f
@@ -170,6 +180,8 @@ module _ {A : Type 0} where
   one_listing n s l (answer.Listed x) answer.Quiet t u f h calm still = absurd h
   one_listing n s l (answer.Listed x) (answer.Marked word) t u f h calm still = absurd h
   one_listing n s l (answer.Listed x) (answer.OwnStation own) t u f h calm still = absurd h
+  one_listing n s l (answer.Listed x) (answer.Service y) t u f h calm still = absurd h
+  one_listing n s l (answer.Listed x) (answer.ServiceOutage m) t u f h calm still = absurd h
   one_listing n s l (answer.Listed x) (answer.Forbidden order) t u f h calm still = absurd h
   one_listing n s l (answer.Listed x) (answer.Bad m e) t u f h calm still = absurd h
   one_listing n s l (answer.Listed x) (answer.Replied p y) t u f h calm still = absurd h
@@ -179,22 +191,57 @@ module _ {A : Type 0} where
   one_listing n s l answer.Quiet b t u f h calm still = absurd f
   one_listing n s l (answer.Marked word) b t u f h calm still = absurd f
   one_listing n s l (answer.OwnStation own) b t u f h calm still = absurd f
+  one_listing n s l (answer.Service x) b t u f h calm still = absurd f
+  one_listing n s l (answer.ServiceOutage m) b t u f h calm still = absurd f
   one_listing n s l (answer.Forbidden order) b t u f h calm still = absurd f
   one_listing n s l (answer.Bad m e) b t u f h calm still = absurd f
   one_listing n s l (answer.Replied p y) b t u f h calm still = absurd f
   one_listing n s l (answer.Queried y) b t u f h calm still = absurd f
 
-  one_reading : (n : ℕ) (s : State) (line : Line A) (a b : Answer A) (t u : State) → AnswersReading of_register n s line a t → AnswersReading of_register n s line b u → is_outage a ≡ false → is_outage b ≡ false → Same a b t u
-  one_reading n s Silent a b t u f h calm still = (f.0 ∙ sym h.0, f.1 ∙ sym h.1)
-  one_reading n s (Bad e) a b t u f h calm still = (f.0 ∙ sym h.0, f.1 ∙ sym h.1)
-  one_reading n s (Mark word) a b t u f h calm still = (f.0 ∙ sym h.0, f.1 ∙ sym h.1)
-  one_reading n s (OwnStation own) a b t u f h calm still = (f.0 ∙ sym h.0, f.1 ∙ sym h.1)
-  one_reading n s (Forbidden order) a b t u f h calm still = (f.0 ∙ sym h.0, f.1 ∙ sym h.1)
-  one_reading n s (Apply c) a b t u f h calm still = one_command s c a b t u f h calm still
-  one_reading n s (Ask q) a b t u f h calm still = one_query n s q a b t u f h calm still
-  one_reading n s (Print l) a b t u f h calm still = one_listing n s l a b t u f h calm still
+  -- the same but for the figures of a service
+  abbrev pub Alike : Answer A → Answer A → State → State → Type 0
+  Alike a b t u = (without_figures a ≡ without_figures b) × (t ≡ u)
 
-  pub one_answer : (speaker : Speaker) (n : ℕ) (s : State) (line : List ℕ) (a b : Answer A) (t u : State) → Answers of_register speaker n s line a t → Answers of_register speaker n s line b u → is_outage a ≡ false → is_outage b ≡ false → Same a b t u
+  alike : (a b : Answer A) (t u : State) → Same a b t u → Alike a b t u
+  alike a b t u same = (ap without_figures same.0, same.1)
+
+  one_service : (n : ℕ) (a b : Answer A) → AnswersService n a → AnswersService n b → is_outage a ≡ false → is_outage b ≡ false → without_figures a ≡ without_figures b
+  one_service n (answer.Service x) (answer.Service y) f h calm still = refl
+  one_service n (answer.Service x) (answer.ServiceOutage m) f h calm still = absurd (true≢false still)
+  one_service n (answer.Service x) answer.Quiet f h calm still = absurd h
+  one_service n (answer.Service x) (answer.Marked word) f h calm still = absurd h
+  one_service n (answer.Service x) (answer.OwnStation own) f h calm still = absurd h
+  one_service n (answer.Service x) (answer.Forbidden order) f h calm still = absurd h
+  one_service n (answer.Service x) (answer.Bad line fault) f h calm still = absurd h
+  one_service n (answer.Service x) (answer.Replied sequence reply) f h calm still = absurd h
+  one_service n (answer.Service x) (answer.CommandOutage sequence word) f h calm still = absurd h
+  one_service n (answer.Service x) (answer.Queried query_answer) f h calm still = absurd h
+  one_service n (answer.Service x) (answer.Listed lines) f h calm still = absurd h
+  one_service n (answer.Service x) (answer.QueryOutage line word) f h calm still = absurd h
+  one_service n (answer.ServiceOutage m) b f h calm still = absurd (true≢false calm)
+  one_service n answer.Quiet b f h calm still = absurd f
+  one_service n (answer.Marked word) b f h calm still = absurd f
+  one_service n (answer.OwnStation own) b f h calm still = absurd f
+  one_service n (answer.Forbidden order) b f h calm still = absurd f
+  one_service n (answer.Bad line fault) b f h calm still = absurd f
+  one_service n (answer.Replied sequence reply) b f h calm still = absurd f
+  one_service n (answer.CommandOutage sequence word) b f h calm still = absurd f
+  one_service n (answer.Queried query_answer) b f h calm still = absurd f
+  one_service n (answer.Listed lines) b f h calm still = absurd f
+  one_service n (answer.QueryOutage line word) b f h calm still = absurd f
+
+  one_reading : (n : ℕ) (s : State) (line : Line A) (a b : Answer A) (t u : State) → AnswersReading of_register n s line a t → AnswersReading of_register n s line b u → is_outage a ≡ false → is_outage b ≡ false → Alike a b t u
+  one_reading n s Silent a b t u f h calm still = alike a b t u (f.0 ∙ sym h.0, f.1 ∙ sym h.1)
+  one_reading n s (Bad e) a b t u f h calm still = alike a b t u (f.0 ∙ sym h.0, f.1 ∙ sym h.1)
+  one_reading n s (Mark word) a b t u f h calm still = alike a b t u (f.0 ∙ sym h.0, f.1 ∙ sym h.1)
+  one_reading n s (OwnStation own) a b t u f h calm still = alike a b t u (f.0 ∙ sym h.0, f.1 ∙ sym h.1)
+  one_reading n s Service a b t u f h calm still = (one_service n a b f.0 h.0 calm still, f.1 ∙ sym h.1)
+  one_reading n s (Forbidden order) a b t u f h calm still = alike a b t u (f.0 ∙ sym h.0, f.1 ∙ sym h.1)
+  one_reading n s (Apply c) a b t u f h calm still = alike a b t u (one_command s c a b t u f h calm still)
+  one_reading n s (Ask q) a b t u f h calm still = alike a b t u (one_query n s q a b t u f h calm still)
+  one_reading n s (Print l) a b t u f h calm still = alike a b t u (one_listing n s l a b t u f h calm still)
+
+  pub one_answer : (speaker : Speaker) (n : ℕ) (s : State) (line : List ℕ) (a b : Answer A) (t u : State) → Answers of_register speaker n s line a t → Answers of_register speaker n s line b u → is_outage a ≡ false → is_outage b ≡ false → Alike a b t u
   one_answer speaker n s line a b t u f h calm still = one_reading n s (heard speaker line) a b t u f h calm still
 
   pub one : OneText A
@@ -207,4 +254,4 @@ module _ {A : Type 0} where
       let first = one_answer speaker (n + 1) s line x y f.0 h.0 f.1 h.1 (or_left (is_outage x) (list_any is_outage xs) calm) (or_left (is_outage y) (list_any is_outage ys) still) in
       let rest = one speaker (n + 1) f.0 t u given xs ys f.2 (subst (λ (m : State). Dialogue of_register speaker (n + 1) m given ys u) (sym first.1) h.2)
       (or_right (is_outage x) (list_any is_outage xs) calm) (or_right (is_outage y) (list_any is_outage ys) still) in
-      (ap (λ (a : Answer A). a ∷ xs) first.0 ∙ ap (λ (more : List (Answer A)). y ∷ more) rest.0, rest.1)
+      (ap (λ (a : Answer A). a ∷ map without_figures xs) first.0 ∙ ap (λ (more : List (Answer A)). without_figures y ∷ more) rest.0, rest.1)

@@ -20,6 +20,7 @@ use Rattle.centre_core.specs.Queries.{is_list_query, query_of}
 use Rattle.console.specs.declared.answer.Answer.{Answer}
 use Rattle.console.specs.declared.answer.Answer.TheVariants as answer
 use Rattle.desk.specs.Words.{outage_word}
+use Rattle.desk.specs.declared.outage.Outage.TheVariants.{Memory}
 use Rattle.desk.specs.Replies.{HasShortPdu}
 use Rattle.console.specs.Words.{line_word, mm_word, registration_word, group_word, sds_word, mail_word}
 use Rattle.listings.specs.Words.{pdu_text}
@@ -87,6 +88,8 @@ module _ {B : Type 0} where
   text (answer.QueryOutage line word) = codes "line " ++ decimal line ++ codes " no " ++ outage_word word ++ codes "\n"
   text (answer.Marked word) = codes "mark " ++ word ++ codes "\n"
   text (answer.OwnStation station) = codes "station " ++ decimal station ++ codes "\n"
+  text (answer.Service lines) = lines
+  text (answer.ServiceOutage line) = codes "line " ++ decimal line ++ codes " no " ++ outage_word Memory ++ codes "\n"
   text (answer.Forbidden sequence) = decimal sequence ++ codes " no forbidden" ++ codes "\n"
 
   -- the lines of all answers, one after another
@@ -111,17 +114,24 @@ module _ {B : Type 0} where
   is_list_answer (answer.Queried query_answer) = is_list query_answer
   is_list_answer other = false
 
-  -- no list, no listing, and a PDU in it has at most 2,048 bits: its text fits answer_room bytes
+  -- the answer, without the figures of a service
+  abbrev pub without_figures : Answer B → Answer B
+  without_figures (answer.Service lines) = answer.Service []
+  without_figures other = other
+
+  -- no list, no listing, no figures, and a PDU in it has at most 2,048 bits: its text fits answer_room bytes
   abbrev pub IsLine : Answer B → Type 0
   IsLine (answer.Replied sequence reply) = HasShortPdu reply
   IsLine (answer.Queried query_answer) = IsOneLine query_answer
   IsLine (answer.Listed lines) = ⊥
+  IsLine (answer.Service lines) = ⊥
   IsLine other = Unit {0}
 
   -- an outage word is answered
   abbrev pub is_outage : Answer B → Bool
   is_outage (answer.CommandOutage sequence word) = true
   is_outage (answer.QueryOutage line word) = true
+  is_outage (answer.ServiceOutage line) = true
   is_outage other = false
 
   -- the line is bad, or an outage word is answered
@@ -129,4 +139,5 @@ module _ {B : Type 0} where
   is_trouble (answer.Bad line fault) = true
   is_trouble (answer.CommandOutage sequence word) = true
   is_trouble (answer.QueryOutage line word) = true
+  is_trouble (answer.ServiceOutage line) = true
   is_trouble other = false

@@ -1,5 +1,5 @@
 -- Which answers may be given to which lines. A is the allocator of the bits of commands and replies; nothing depends on it.
-use Rattle.std.specs.Prelude.{◌≡◌, ◌⊎◌, ℕ, ◌+◌, ◌≤◌, Bool, true, false, List, [], ◌∷◌, ◌++◌, length, Ok, Err}
+use Rattle.std.specs.Prelude.{◌≡◌, ◌⊎◌, ℕ, ◌+◌, ◌≤◌, Bool, true, false, List, [], ◌∷◌, ◌++◌, length, map, Ok, Err}
 use Rattle.std.specs.List.{list_any}
 use Rattle.identity.specs.Numbers.{Byte}
 use Rattle.centre_core.specs.State.{State}
@@ -17,7 +17,8 @@ use Rattle.console.specs.declared.line.Line.TheVariants as line
 use Rattle.console.specs.declared.answer.Answer.{Answer}
 use Rattle.console.specs.declared.answer.Answer.TheVariants as answer
 use Rattle.console.specs.Reading.{Speaker, heard, HasPdu}
-use Rattle.console.specs.Answer.{texts, is_trouble, is_outage, is_list}
+use Rattle.console.specs.Answer.{texts, is_trouble, is_outage, is_list, without_figures}
+use Rattle.console.specs.Service.{IsService}
 
 -- memory runs out for the text of a list that the desk answers
 abbrev pub LacksText : {A W : Type 0} → Rules A W → W → Query → Outage → W → Type 0
@@ -27,6 +28,12 @@ LacksText {A = A} rules s q word t =
 -- memory runs out for the text of a list of a register that the desk may read
 abbrev pub LacksLines : {A W : Type 0} → Rules A W → W → Listing → Outage → W → Type 0
 LacksLines rules s l word t = (word ≡ Memory) × (is_line l ≡ false) × ((r : State) × rules.reads s (Ok r) t)
+
+-- the answer to the question for the figures of the service: lines of its form, or out of memory with the number of the line
+abbrev pub AnswersService : {A : Type 0} → ℕ → Answer A → Type 0
+AnswersService n (answer.Service lines) = IsService lines
+AnswersService n (answer.ServiceOutage number) = number ≡ n
+AnswersService n other = ⊥
 
 module _ {A W : Type 0} where
   -- memory runs out for the PDU in a command, and the desk does nothing
@@ -60,6 +67,7 @@ module _ {A W : Type 0} where
   AnswersReading rules n s (line.Print l) given t = AnswersListing rules n s l given t
   AnswersReading rules n s (line.Mark word) given t = (given ≡ answer.Marked word) × (t ≡ s)
   AnswersReading rules n s (line.OwnStation station) given t = (given ≡ answer.OwnStation station) × (t ≡ s)
+  AnswersReading rules n s line.Service given t = AnswersService n given × (t ≡ s)
   AnswersReading rules n s (line.Forbidden sequence) given t = (given ≡ answer.Forbidden sequence) × (t ≡ s)
 
   -- the answer to the line numbered n, whose text is from this speaker
@@ -109,8 +117,8 @@ abbrev pub CutOffIsPrefix : (A : Type 0) {W : Type 0} → Rules A W → Type 0
 CutOffIsPrefix A {W = W} rules = (speaker : Speaker) (s t : W) (given : List (List Byte)) (out : List Byte) →
     IsCutOff A rules speaker s given out t → IsPrefix A rules speaker s given out
 
--- without outage words the lines determine the answers and the register
+-- without outage words the lines determine the register, and the answers but for the figures of a service
 abbrev pub OneText : Type 0 → Type 0
 OneText A = (speaker : Speaker) (n : ℕ) (s t u : State) (given : List (List Byte)) (xs ys : List (Answer A)) →
     Dialogue of_register speaker n s given xs t → Dialogue of_register speaker n s given ys u →
-    list_any is_outage xs ≡ false → list_any is_outage ys ≡ false → (xs ≡ ys) × (t ≡ u)
+    list_any is_outage xs ≡ false → list_any is_outage ys ≡ false → (map without_figures xs ≡ map without_figures ys) × (t ≡ u)

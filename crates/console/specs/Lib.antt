@@ -1,5 +1,6 @@
 pub mod Words
 pub mod Mark
+pub mod Service
 pub mod Reading
 pub mod Answer
 pub mod Dialogue

@@ -25,13 +25,13 @@ use Rattle.centre_core.specs.declared.command.Body.TheVariants.{RuleSet, RuleCle
 use Rattle.centre_core.specs.declared.query.Query.{Query}
 use Rattle.centre_core.specs.declared.query.Query.TheVariants.{Whereabouts, Look, GroupsOf, MembersOf, Waiting, Total}
 use Rattle.listings.specs.declared.listing.Listing.{Listing}
-use Rattle.listings.specs.declared.listing.Listing.TheVariants.{Entries, Last, Room}
-use Rattle.listings.specs.declared.listing.Table.TheVariants.{Rules, Radios, Items, Due}
+use Rattle.listings.specs.declared.listing.Listing.TheVariants.{Entries, Last, Room, Dump}
+use Rattle.listings.specs.declared.listing.Table.TheVariants.{Rules, Radios, Items, Due, WaitingAt}
 use Rattle.console.specs.declared.body.Head.{Head}
 use Rattle.console.specs.declared.line.LineFault.{LineFault}
 use Rattle.console.specs.declared.line.LineFault.TheVariants.{Syntax, Value, TooLong}
 use Rattle.console.specs.declared.line.Line.{Line}
-use Rattle.console.specs.declared.line.Line.TheVariants.{Silent, Bad, Apply, Ask, Print, Mark, OwnStation, Forbidden}
+use Rattle.console.specs.declared.line.Line.TheVariants.{Silent, Bad, Apply, Ask, Print, Mark, OwnStation, Service, Forbidden}
 use Rattle.console.specs.Mark.{mark_in}
 
 -- no byte of the text is the mark
@@ -134,11 +134,16 @@ radios_under prefix = Entries (Radios (Some prefix))
 abbrev pub due_at : Moment → Listing
 due_at moment = Entries (Due moment)
 
+-- the items that wait at a station
+abbrev pub waiting_at : Station → Listing
+waiting_at station = Entries (WaitingAt station)
+
 -- name WORD: a listing of a part, if the name is one of these
 abbrev pub listing_in : List Byte → List Byte → Option (Result Listing LineFault)
 listing_in name word =
     if bytes_eq name (codes "radios") then Some (saying radios_under (prefix_in word))
     else if bytes_eq name (codes "due") then Some (saying due_at (seconds_in word))
+    else if bytes_eq name (codes "waiting") then Some (saying waiting_at (station_in word))
     else if bytes_eq name (codes "last") then Some (saying Last (station_in word))
     else None
 
@@ -211,7 +216,7 @@ module _ {A : Type 0} where
   marked (Some word) = Mark word
   marked None = Bad Value
 
-  -- a word alone: the count, a listing, or the question which station this is
+  -- a word alone: the count, a listing, or the question which station this is or for the figures of the service
   abbrev pub of_word : Station → List Byte → Line A
   of_word station name =
       if bytes_eq name (codes "count") then Ask Total
@@ -219,7 +224,9 @@ module _ {A : Type 0} where
       else if bytes_eq name (codes "radios") then Print (Entries (Radios None))
       else if bytes_eq name (codes "items") then Print (Entries Items)
       else if bytes_eq name (codes "room") then Print Room
+      else if bytes_eq name (codes "dump") then Print Dump
       else if bytes_eq name (codes "station") then OwnStation station
+      else if bytes_eq name (codes "service") then Service
       else Bad Syntax
 
   -- a listing, or else a query

@@ -17,9 +17,9 @@ use Rattle.centre_core.specs.declared.query.Query.{Query}
 use Rattle.centre_core.specs.declared.query.Query.TheVariants.{Whereabouts, Look, GroupsOf, MembersOf, Waiting, Total}
 use Rattle.listings.specs.Words.{kind_word}
 use Rattle.listings.specs.declared.listing.Listing.{Listing}
-use Rattle.listings.specs.declared.listing.Listing.TheVariants.{Entries, Last, Room}
-use Rattle.listings.specs.declared.listing.Table.TheVariants.{Rules, Radios, Items, Due}
-use Rattle.console.specs.declared.line.Line.TheVariants.{Bad, Apply, Ask, Print, Mark, OwnStation, Forbidden}
+use Rattle.listings.specs.declared.listing.Listing.TheVariants.{Entries, Last, Room, Dump}
+use Rattle.listings.specs.declared.listing.Table.TheVariants.{Rules, Radios, Items, Due, WaitingAt}
+use Rattle.console.specs.declared.line.Line.TheVariants.{Bad, Apply, Ask, Print, Mark, OwnStation, Service, Forbidden}
 use Rattle.console.specs.declared.line.LineFault.TheVariants.{Syntax, Value, TooLong}
 use Rattle.console.specs.Mark.{is_mark}
 use Rattle.console.specs.Reading.{reading, words, is_silent, longest_line}
@@ -77,8 +77,10 @@ listing_line (Entries (Radios None)) = codes "radios"
 listing_line (Entries (Radios (Some prefix))) = spaced (codes "radios" ∷ prefix_text prefix ∷ [])
 listing_line (Entries Items) = codes "items"
 listing_line (Entries (Due moment)) = spaced (codes "due" ∷ decimal moment ∷ [])
+listing_line (Entries (WaitingAt station)) = spaced (codes "waiting" ∷ decimal station ∷ [])
 listing_line (Last station) = spaced (codes "last" ∷ decimal station ∷ [])
 listing_line Room = codes "room"
+listing_line Dump = codes "dump"
 
 -- the prefix, moment or station in a listing is in range
 abbrev pub Listable : Listing → Type 0
@@ -87,8 +89,10 @@ Listable (Entries (Radios None)) = Unit {0}
 Listable (Entries (Radios (Some prefix))) = length prefix ≤ 48
 Listable (Entries Items) = Unit {0}
 Listable (Entries (Due moment)) = moment < 2 ^ 32
+Listable (Entries (WaitingAt station)) = station < 2 ^ 16
 Listable (Last station) = station < 2 ^ 16
 Listable Room = Unit {0}
+Listable Dump = Unit {0}
 
 -- a mark's line
 abbrev pub mark_line : List Byte → List Byte
@@ -97,6 +101,10 @@ mark_line word = spaced (codes "mark" ∷ word ∷ [])
 -- the line that asks which station this is
 abbrev pub station_line : List Byte
 station_line = codes "station"
+
+-- the line that asks for the figures of the service
+abbrev pub service_line : List Byte
+service_line = codes "service"
 
 -- a line from this station gives a command: it spells that command, which is in range and of the station
 pub record GivesCommand {A : Type 0} (station : Station) (line : List Byte) (c : Command A) : Type 0 where
@@ -142,6 +150,10 @@ OnlyMarks A = (station : Station) (line word : List Byte) → reading {A = A} st
 abbrev pub OnlyOwnStation : Type 0 → Type 0
 OnlyOwnStation A = (station said : Station) (line : List Byte) → reading {A = A} station line ≡ OwnStation said → (said ≡ station) × (line ≡ station_line)
 
+-- only one line asks for the figures of the service
+abbrev pub OnlyService : Type 0 → Type 0
+OnlyService A = (station : Station) (line : List Byte) → reading {A = A} station line ≡ Service → line ≡ service_line
+
 -- what a line says is not forbidden before it is known who speaks
 abbrev pub NothingForbidden : Type 0 → Type 0
 NothingForbidden A = (station : Station) (line : List Byte) (sequence : Sequence) → reading {A = A} station line ≡ Forbidden sequence → ⊥
@@ -166,6 +178,10 @@ AllMarks A = (station : Station) (word : List Byte) → is_mark word ≡ true �
 abbrev pub AllOwnStation : Type 0 → Type 0
 AllOwnStation A = (station : Station) → reading {A = A} station station_line ≡ OwnStation station
 
+-- the line that asks for the figures of the service, is read so
+abbrev pub AllService : Type 0 → Type 0
+AllService A = (station : Station) → reading {A = A} station service_line ≡ Service
+
 -- a line in which `mark` and a space come is read as no command, whatever comes before them: so a mark completes no line that was cut
 abbrev pub MarkCompletesNoCommand : Type 0 → Type 0
 MarkCompletesNoCommand A = (station : Station) (before word : List Byte) (c : Command A) → reading station (before ++ codes "mark " ++ word) ≡ Apply c → ⊥
@@ -176,9 +192,9 @@ is_one_of names word = list_any (bytes_eq word) names
 
 -- the forms of lines, by their number of words: a mark, a query or a listing is named by its first word, a command by its third
 abbrev pub has_form : List (List Byte) → Bool
-has_form (name ∷ []) = is_one_of (codes "count" ∷ codes "rules" ∷ codes "radios" ∷ codes "items" ∷ codes "room" ∷ codes "station" ∷ []) name
+has_form (name ∷ []) = is_one_of (codes "count" ∷ codes "rules" ∷ codes "radios" ∷ codes "items" ∷ codes "room" ∷ codes "dump" ∷ codes "station" ∷ codes "service" ∷ []) name
 has_form (name ∷ word ∷ []) =
-    is_one_of (codes "mark" ∷ codes "radios" ∷ codes "due" ∷ codes "last"
+    is_one_of (codes "mark" ∷ codes "radios" ∷ codes "due" ∷ codes "waiting" ∷ codes "last"
     ∷ codes "where" ∷ codes "look" ∷ codes "groups" ∷ codes "members" ∷ codes "mail" ∷ []) name
 has_form (sequence ∷ moment ∷ name ∷ []) = is_one_of (codes "expire" ∷ []) name
 has_form (sequence ∷ moment ∷ name ∷ a ∷ []) = is_one_of (codes "unrule" ∷ []) name
@@ -203,9 +219,10 @@ IsListingLine line = (l : Listing) × Listable l × (line ≡ listing_line l)
 abbrev pub IsMarkLine : List Byte → Type 0
 IsMarkLine line = (word : List Byte) × (is_mark word ≡ true) × (line ≡ mark_line word)
 
--- a line spells a command of its station, a query, a listing or a mark, in range; or it asks which station this is
+-- a line spells a command of its station, a query, a listing or a mark, in range; or it asks which station this is, or for the figures
+-- of the service
 abbrev pub SpellsSome : Type 0 → Station → List Byte → Type 0
-SpellsSome A station line = IsCommandLine A station line ⊎ IsQueryLine line ⊎ IsListingLine line ⊎ IsMarkLine line ⊎ (line ≡ station_line)
+SpellsSome A station line = IsCommandLine A station line ⊎ IsQueryLine line ⊎ IsListingLine line ⊎ IsMarkLine line ⊎ (line ≡ station_line) ⊎ (line ≡ service_line)
 
 -- the line is short enough, and neither empty nor a comment
 abbrev pub IsJudged : List Byte → Type 0

@@ -1,25 +1,53 @@
 -- What a run writes, and when, over any reader and any writer. A is the allocator of the bits of commands and replies; nothing
 -- depends on it.
-use Rattle.std.specs.Prelude.{◌≡◌, ◌++◌, List, length, Result, IfOk, OnErr}
+use Rattle.std.specs.Prelude.{◌≡◌, ◌⊎◌, ◌≤◌, ◌++◌, ◌∷◌, ℕ, List, [], length, Option, Some, Result, IfOk, IsErrOf, OnErr}
 use Rattle.std.specs.Str.Lines.{lines}
 use Rattle.identity.specs.Numbers.{Byte}
 use Rattle.desk.specs.Rules.{Rules}
 use Rattle.console.specs.declared.input.Input.{Input}
 use Rattle.console.specs.declared.output.Output.{Output}
 use Rattle.console.specs.declared.running.Ran.{Ran}
+use Rattle.console.specs.declared.passed.Passed.{Passed}
 use Rattle.console.specs.declared.running.RunFault.{RunFault}
+use Rattle.console.specs.declared.running.RunFault.TheVariants as fault
 use Rattle.console.specs.Answer.{texts}
 use Rattle.console.specs.Reading.{Speaker}
 use Rattle.console.specs.Dialogue.{IsDialogue, IsCutOff}
-use Rattle.console.specs.Events.{Event, read_by, answered_by, written_by, OnlyAnswers}
+use Rattle.console.specs.Events.{Event, Read, read_by, answered_by, written_by, read_failures, write_failures, OnlyAnswers}
+use Rattle.console.specs.Failures.{failures_reported}
 
--- all bytes that the reader has given
+-- the calls of the reader of an input
+abbrev pub calls_of : {R L F : Type 0} → Input R L F → List Event
+calls_of input = input.events.list
+
+-- all bytes that it has given
 abbrev pub all_read : {R L F : Type 0} → Input R L F → List Byte
-all_read input = read_by input.events.list
+all_read input = read_by (calls_of input)
 
--- what has passed by an output: the answers that were given, and the bytes that its writer took
+-- what has passed by an output: the answers that were given, and the calls of its writer
 abbrev pub events_of : {W G : Type 0} → Output W G → List Event
 events_of output = output.events.list
+
+-- if what a reader had left is known, it gave the first of these bytes
+abbrev pub GaveFirst : Option (List Byte) → List Byte → Type 0
+GaveFirst unread given = (all : List Byte) → unread ≡ Some all → (left : List Byte) × (all ≡ given ++ left)
+
+-- if what a writer held is known, it holds what was written at these events after that
+abbrev pub HasTaken : Option (List Byte) → List Event → Option (List Byte) → Type 0
+HasTaken before events after = (held : List Byte) → before ≡ Some held → after ≡ Some (held ++ written_by events)
+
+-- where the streams of a run are: all bytes that its reader gave, and what it has left; what has passed by its output, and what the
+-- writer holds
+pub record Streams : Type 0 where
+  pub read : List Byte
+  pub unread : Option (List Byte)
+  pub passed : List Event
+  pub held : Option (List Byte)
+
+-- those of this input and this output, by the bytes of their reader and writer
+abbrev pub streams_of : {R L F V G : Type 0} → (R → Option (List Byte)) → (V → Option (List Byte)) → Input R L F → Output V G → Streams
+streams_of unread held input output =
+    record { read = all_read input; unread = unread input.reader.now; passed = events_of output; held = held output.writer.now }
 
 module _ (A : Type 0) {W : Type 0} (rules : Rules A W) (speaker : Speaker) (s t : W) (input : List Byte) (events : List Event) where
   -- every line of this input was answered, and every answer was written
@@ -30,6 +58,40 @@ module _ (A : Type 0) {W : Type 0} (rules : Rules A W) (speaker : Speaker) (s t 
   abbrev pub TellsSome : Type 0
   TellsSome = (cut : IsCutOff A rules speaker s (lines input) (written_by events) t) × (missing : List Byte) × (texts (cut.answered ++ cut.last) ≡ answered_by events ++ missing)
 
-  -- A run with this result read this input, and took the desk from s to t. What it wrote was answered before
+  -- a run with this result read this input, and took the desk from s to t. What it wrote was answered before
   abbrev pub IsTold : Result Ran RunFault → Type 0
   IsTold result = OnlyAnswers events × IfOk result TellsAll × OnErr result TellsSome
+
+-- a run with this result took its streams from here to there, and the desk from s to t
+abbrev pub Tells : (A : Type 0) {W : Type 0} → Rules A W → Speaker → W → W → Streams → Streams → Result Ran RunFault → Type 0
+Tells A rules speaker s t old new result = (given : List Byte) × (events : List Event)
+    × (new.read ≡ old.read ++ given) × GaveFirst old.unread given
+    × (new.passed ≡ old.passed ++ events) × HasTaken old.held events new.held
+    × IsTold A rules speaker s t given events result
+
+-- why a run with this result ended. Given are the most calls of its reader, the calls that were made, and what passed by its writer
+pub record EndsFor (turns : ℕ) (calls events : List Event) (result : Result Ran RunFault) : Type 0 where
+  pub few : length calls ≤ turns
+  -- at Ok the text came to its end: the last call of the reader gave no bytes
+  pub whole : IfOk result (λ ran. (before : List Event) × (calls ≡ before ++ Read [] ∷ []))
+  -- at Read the reader failed, or was called as often as it may be
+  pub read : IsErrOf result fault.Read → (read_failures calls ≡ 1) ⊎ (length calls ≡ turns)
+  -- at any other result it never failed
+  pub sound : (IsErrOf result fault.Read → ⊥) → read_failures calls ≡ 0
+  -- the writer failed once at Write, and at any other result never
+  pub write : write_failures events ≡ failures_reported result
+  -- at NoMemory nothing was read, answered or written
+  pub memory : IsErrOf result fault.NoMemory → (calls ≡ []) × (events ≡ [])
+
+-- the same of the calls that an input made from one moment to another, and of what passed by an output meanwhile
+abbrev pub EndsSince : ℕ → List Event → List Event → List Event → List Event → Result Ran RunFault → Type 0
+EndsSince turns called called_now passed passed_now result = (calls : List Event) × (events : List Event)
+    × (called_now ≡ called ++ calls) × (passed_now ≡ passed ++ events) × EndsFor turns calls events result
+
+-- what passed in a run, once it has ended: the calls of its reader
+abbrev pub reader_events : {R : Type 0} → Passed R → List Event
+reader_events passed = passed.by_reader.list
+
+-- the answers that were given, and the calls of its writer
+abbrev pub writer_events : {R : Type 0} → Passed R → List Event
+writer_events passed = passed.by_writer.list

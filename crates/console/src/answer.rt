@@ -12,7 +12,7 @@ use registration::Station;
 use std::alloc::{AllocError, Allocator};
 use std::marker::Model;
 
-/// The lines of a listing, with their ends. Contracts model them as their bytes.
+/// The lines of a listing or of figures, with their ends. Contracts model them as their bytes.
 #[derive(Drop)]
 pub struct Lines<B: Allocator> {
     bytes: Vec<u8, B>,
@@ -27,7 +27,7 @@ impl<B: Allocator> Model for Lines<B> {
 }
 
 impl<B: Allocator> Lines<B> {
-    /// These bytes as the lines of a listing.
+    /// These bytes as lines.
     pub fn new(bytes: Vec<u8, B>) -> Self
         ensures { result ≡ bytes.items }
     {
@@ -63,6 +63,10 @@ pub enum Answer<B: Allocator> {
     Marked(Mark),
     /// The station whose line it is.
     OwnStation(Station),
+    /// The figures of the service, as lines.
+    Service(Lines<B>),
+    /// Memory ran out for the figures that the line of this number asks for.
+    ServiceOutage(u64),
     /// The command of this sequence is an order, and the station may give none: nothing was done.
     Forbidden(Sequence),
 }
@@ -75,7 +79,10 @@ impl<B: Allocator> Answer<B> {
     {
         matches!(
             self,
-            Answer::Bad(..) | Answer::CommandOutage(..) | Answer::QueryOutage(..)
+            Answer::Bad(..)
+                | Answer::CommandOutage(..)
+                | Answer::QueryOutage(..)
+                | Answer::ServiceOutage(_)
         )
     }
 }

@@ -17,6 +17,7 @@ use crate::lists::{put_count, put_groups, put_items, put_members};
 use crate::mark::Mark;
 use crate::words::{group_word, line_word, mail_word, mm_word, registration_word, sds_word};
 use centre_core::{QueryAnswer, Refusal, Reply, Sequence};
+use desk::Outage;
 use identity::{Bits, Itsi, Prefix, print_bits, print_itsi, print_number};
 use listings::{Part, put_parts};
 use registration::{Radio, Rule, Station};
@@ -40,7 +41,9 @@ pub(crate) fn put_answer<A: Allocator, B: Allocator>(
         Answer::CommandOutage(sequence, word) => put_refused(out, *sequence, word.word()),
         Answer::Queried(query_answer) => put_query_answer(out, query_answer),
         Answer::Listed(lines) => out.extend_from_slice(lines.as_slice()),
+        Answer::Service(lines) => out.extend_from_slice(lines.as_slice()),
         Answer::QueryOutage(line, word) => put_of_line(out, *line, " no ", word.word()),
+        Answer::ServiceOutage(line) => put_of_line(out, *line, " no ", Outage::Memory.word()),
         Answer::Marked(mark) => put_mark(out, mark),
         Answer::OwnStation(station) => put_station(out, *station),
         Answer::Forbidden(sequence) => put_refused(out, *sequence, "forbidden"),

@@ -35,7 +35,7 @@ pub(crate) fn head_in(sequence: &[u8], moment: &[u8]) -> Option<Head>
     Some(Head { sequence, moment })
 }
 
-/// A listing of a part: `radios PREFIX`, `due MOMENT` or `last STATION`. `None` for another name.
+/// A listing of a part: `radios PREFIX`, `due MOMENT`, `waiting STATION` or `last STATION`. `None` for another name.
 pub(crate) fn listing_in(name: &[u8], word: &[u8]) -> Option<Result<Listing, LineFault>>
     ensures { result ≡ listing_in name.now word.now }
 {
@@ -45,6 +45,8 @@ pub(crate) fn listing_in(name: &[u8], word: &[u8]) -> Option<Result<Listing, Lin
     } else if name == b"due".as_slice() {
         let moment = seconds_in(word);
         moment.map(|moment| Listing::Entries(Table::Due(Moment::new(moment))))
+    } else if name == b"waiting".as_slice() {
+        station_in(word).map(|station| Listing::Entries(Table::WaitingAt(station)))
     } else if name == b"last".as_slice() {
         station_in(word).map(Listing::Last)
     } else {

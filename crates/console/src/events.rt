@@ -19,12 +19,16 @@ impl Model for Events {
 /// An event.
 #[derive(Clone, Copy, Drop)]
 pub(crate) enum Note<'a> {
-    /// The reader gave these bytes.
+    /// A call of the reader gave these bytes.
     Read(&'a [u8]),
+    /// A call of the reader failed.
+    ReadFailed,
     /// An answer was given, with this text.
     Answered(&'a [u8]),
-    /// The writer took these bytes.
+    /// A call of the writer took these bytes.
     Wrote(&'a [u8]),
+    /// A call of the writer failed.
+    WriteFailed,
 }
 
 impl Events {

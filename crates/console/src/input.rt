@@ -1,8 +1,7 @@
 //! The reader of a run, and the ledgers of its calls and faults.
 ghost use Rattle.std.specs.Prelude.{◌≡◌, ◌≤◌, ◌<◌, ◌+◌, ◌++◌, ◌∷◌, [], List, ℕ, length, IfOk, IfErr, OnErr, Some};
-ghost use Rattle.console.specs.Events.{Read};
+ghost use Rattle.console.specs.Events.{Read, ReadFailed};
 ghost use Rattle.console.specs.Inside.Feed.{FitsPiece, IsPiece, read_in};
-ghost use Rattle.console.specs.Told.{all_read};
 
 use crate::events::{Events, Note};
 use crate::running::{Piece, RunFault};
@@ -17,8 +16,8 @@ pub struct Input<'r, 's, R: Read, L: Ledger, F: Ledger> {
     reader: &'r mut R,
     steps: &'s mut Steps<L>,
     faults: &'s mut Steps<F>,
-    // The bytes that the reader gave. Only contracts read them.
-    events: Events,
+    // The calls of the reader. Only contracts read them.
+    pub(crate) events: Events,
 }
 
 impl<'r, 's, R: Read, L: Ledger, F: Ledger> Input<'r, 's, R, L, F> {
@@ -30,7 +29,7 @@ impl<'r, 's, R: Read, L: Ledger, F: Ledger> Input<'r, 's, R, L, F> {
         ensures reader_is { result.reader.now ≡ reader.old }
         ensures steps_is { result.steps.now ≡ steps.old }
         ensures faults_is { result.faults.now ≡ faults.old }
-        ensures events { all_read result ≡ [] }
+        ensures events { result.events.list ≡ [] }
     {
         Input {
             reader,
@@ -40,7 +39,7 @@ impl<'r, 's, R: Read, L: Ledger, F: Ledger> Input<'r, 's, R, L, F> {
         }
     }
 
-    /// Notes that the reader gave these bytes.
+    /// Notes that a call of the reader gave these bytes.
     #[inline(always)]
     fn gave(&mut self, bytes: &[u8])
         ensures reader { self.new.reader.ghost_name ≡ self.old.reader.ghost_name }
@@ -52,7 +51,19 @@ impl<'r, 's, R: Read, L: Ledger, F: Ledger> Input<'r, 's, R, L, F> {
         self.events = self.events.then(&Note::Read(bytes));
     }
 
-    /// Calls the reader once.
+    /// Notes that a call of the reader failed.
+    #[inline(always)]
+    fn failed(&mut self)
+        ensures reader { self.new.reader.ghost_name ≡ self.old.reader.ghost_name }
+        ensures steps { self.new.steps.ghost_name ≡ self.old.steps.ghost_name }
+        ensures faults { self.new.faults.ghost_name ≡ self.old.faults.ghost_name }
+        ensures events { self.new.events.list ≡ self.old.events.list ++ ReadFailed ∷ [] }
+        ensures same { (self.new.reader.now ≡ self.old.reader.now) × (self.new.steps.now ≡ self.old.steps.now) × (self.new.faults.now ≡ self.old.faults.now) }
+    {
+        self.events = self.events.then(&Note::ReadFailed);
+    }
+
+    /// Calls the reader once, and notes that.
     pub(crate) fn read(&mut self, buffer: &mut [u8]) -> Result<Piece, RunFault>
         requires { 0 < length buffer.old }
         ensures reader { self.new.reader.ghost_name ≡ self.old.reader.ghost_name }
@@ -62,7 +73,7 @@ impl<'r, 's, R: Read, L: Ledger, F: Ledger> Input<'r, 's, R, L, F> {
         ensures ok { IfOk result (λ piece. (input : List ℕ) → R.remaining self.old.reader.now ≡ Some input
             → IsPiece piece buffer.new input (R.remaining self.new.reader.now)) }
         ensures events { IfOk result (λ piece. self.new.events.list ≡ self.old.events.list ++ Read (read_in piece buffer.new) ∷ []) }
-        ensures silent { OnErr result (self.new.events.list ≡ self.old.events.list) }
+        ensures noted { OnErr result (self.new.events.list ≡ self.old.events.list ++ ReadFailed ∷ []) }
         ensures calls { self.new.steps.now ≡ self.old.steps.now + 1 }
         ensures ledger { self.old.faults.now ≤ self.new.faults.now }
         ensures failed { OnErr result (self.old.faults.now < self.new.faults.now) }
@@ -84,6 +95,7 @@ impl<'r, 's, R: Read, L: Ledger, F: Ledger> Input<'r, 's, R, L, F> {
                     Ok(Piece::Bytes(0))
                 } else {
                     self.faults.tick();
+                    self.failed();
                     Err(RunFault::Read)
                 }
             }

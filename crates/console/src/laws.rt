@@ -2,8 +2,8 @@
 //! commands and replies; nothing depends on it.
 
 ghost use Rattle.console.specs.Dialogue.{CutOffIsPrefix, OneText};
-ghost use Rattle.console.specs.Spelling.{OnlyCommands, OnlyQueries, OnlyListings, OnlyMarks, OnlyOwnStation, NothingForbidden};
-ghost use Rattle.console.specs.Spelling.{AllCommands, AllQueries, AllListings, AllMarks, AllOwnStation, BadLines, MarkCompletesNoCommand};
+ghost use Rattle.console.specs.Spelling.{OnlyCommands, OnlyQueries, OnlyListings, OnlyMarks, OnlyOwnStation, OnlyService, NothingForbidden};
+ghost use Rattle.console.specs.Spelling.{AllCommands, AllQueries, AllListings, AllMarks, AllOwnStation, AllService, BadLines, MarkCompletesNoCommand};
 ghost use Rattle.desk.specs.OfRegister.{of_register};
 ghost use Rattle.desk.specs.OfStore.{of_store};
 ghost use Rattle.console.specs.Stored.{BrokenAfterDevice, RegisterAtDevice, StoredAsRegister};
@@ -17,7 +17,7 @@ pub fn cut_off_is_prefix<A: Allocator>()
     ensures store { CutOffIsPrefix A of_store }
 {}
 
-/// Without outage words, the lines have only one text.
+/// Without outage words, the lines have only one text, but for the figures of a service.
 pub fn one_text<A: Allocator>()
     ensures { OneText A }
 {}
@@ -38,23 +38,25 @@ pub fn stored_as_register<A: Allocator>()
 {}
 
 /// A line is read as a command, a query, a listing or a mark only if it spells that, with values in range. Only one line is
-/// read as the question which station this is, and only that station is the answer.
+/// read as the question which station this is, and only that station is the answer. Only one is read as that for the figures of the service.
 pub fn only_what_is_spelled<A: Allocator>()
     ensures commands { OnlyCommands A }
     ensures queries { OnlyQueries A }
     ensures listings { OnlyListings A }
     ensures marks { OnlyMarks A }
     ensures station { OnlyOwnStation A }
+    ensures service { OnlyService A }
     ensures forbidden { NothingForbidden A }
 {}
 
-/// A line that spells a command, a query, a listing or a mark, or asks which station this is, is read as that.
+/// A line that spells a command, a query, a listing or a mark, or asks which station this is or for the figures of the service, is read as that.
 pub fn all_that_is_spelled<A: Allocator>()
     ensures commands { AllCommands A }
     ensures queries { AllQueries A }
     ensures listings { AllListings A }
     ensures marks { AllMarks A }
     ensures station { AllOwnStation A }
+    ensures service { AllService A }
 {}
 
 /// Which lines are too long, which have no form (`syntax`), and which have a form but spell nothing (`value`).

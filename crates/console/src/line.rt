@@ -43,6 +43,8 @@ pub enum Line<A: Allocator> {
     Mark(Mark),
     /// The question which station this is, and that station.
     OwnStation(Station),
+    /// The question for the figures of the service.
+    Service,
     /// An order of this sequence, by a station that may give none. [`parse_line`] never returns it.
     Forbidden(Sequence),
 }
@@ -187,8 +189,12 @@ pub(crate) fn read_one<A: Allocator>(station: Station, name: &[u8]) -> Line<A>
         Line::Print(Listing::Entries(Table::Items))
     } else if name == b"room".as_slice() {
         Line::Print(Listing::Room)
+    } else if name == b"dump".as_slice() {
+        Line::Print(Listing::Dump)
     } else if name == b"station".as_slice() {
         Line::OwnStation(station)
+    } else if name == b"service".as_slice() {
+        Line::Service
     } else {
         Line::Bad(LineFault::Syntax)
     }

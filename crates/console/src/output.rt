@@ -1,9 +1,8 @@
 //! The writer of a run, and the ledger of its failures.
 ghost use Rattle.std.specs.Prelude.{◌≡◌, ◌≤◌, ◌<◌, ◌+◌, ◌++◌, ◌∷◌, [], List, ℕ, length, take, IfOk, IfErr, OnOk, OnErr, Some};
-ghost use Rattle.console.specs.Events.{Answered, Wrote};
+ghost use Rattle.console.specs.Events.{Answered, WriteFailed, Wrote};
 ghost use Rattle.console.specs.Failures.{failures_reported};
 ghost use Rattle.console.specs.Inside.Passing.{Passes, sent_by};
-ghost use Rattle.console.specs.Told.{events_of};
 
 use crate::events::{Events, Note};
 use crate::running::RunFault;
@@ -18,8 +17,8 @@ use std::sync::ledger::Ledger;
 pub struct Output<'w, 'f, W: Write, G: Ledger> {
     writer: &'w mut W,
     failures: &'f mut Steps<G>,
-    // The answers that were given, and the bytes that the writer took. Only contracts read them.
-    events: Events,
+    // The answers that were given, and the calls of the writer. Only contracts read them.
+    pub(crate) events: Events,
 }
 
 impl<'w, 'f, W: Write, G: Ledger> Output<'w, 'f, W, G> {
@@ -29,7 +28,7 @@ impl<'w, 'f, W: Write, G: Ledger> Output<'w, 'f, W, G> {
         ensures failures { result.failures.ghost_name ≡ failures.entry.ghost_name }
         ensures writer_is { result.writer.now ≡ writer.old }
         ensures failures_is { result.failures.now ≡ failures.old }
-        ensures events { events_of result ≡ [] }
+        ensures events { result.events.list ≡ [] }
     {
         Output {
             writer,
@@ -49,7 +48,7 @@ impl<'w, 'f, W: Write, G: Ledger> Output<'w, 'f, W, G> {
         self.events = self.events.then(&Note::Answered(text));
     }
 
-    /// Notes that the writer took these bytes.
+    /// Notes that a call of the writer took these bytes.
     #[inline(always)]
     fn wrote(&mut self, bytes: &[u8])
         ensures writer { self.new.writer.ghost_name ≡ self.old.writer.ghost_name }
@@ -58,6 +57,19 @@ impl<'w, 'f, W: Write, G: Ledger> Output<'w, 'f, W, G> {
         ensures same { (self.new.writer.now ≡ self.old.writer.now) × (self.new.failures.now ≡ self.old.failures.now) }
     {
         self.events = self.events.then(&Note::Wrote(bytes));
+    }
+
+    /// Counts and notes that a call of the writer failed.
+    #[inline(always)]
+    fn failed(&mut self)
+        ensures writer { self.new.writer.ghost_name ≡ self.old.writer.ghost_name }
+        ensures failures { self.new.failures.ghost_name ≡ self.old.failures.ghost_name }
+        ensures events { self.new.events.list ≡ self.old.events.list ++ WriteFailed ∷ [] }
+        ensures same { self.new.writer.now ≡ self.old.writer.now }
+        ensures ledger { self.new.failures.now ≡ self.old.failures.now + 1 }
+    {
+        self.failures.tick();
+        self.events = self.events.then(&Note::WriteFailed);
     }
 
     /// Writes some of the bytes; none if the call was interrupted, which may happen `patience` times.
@@ -69,7 +81,7 @@ impl<'w, 'f, W: Write, G: Ledger> Output<'w, 'f, W, G> {
             → W.contents self.new.writer.now ≡ Some (before ++ take n bytes.now)) }
         ensures err { OnErr result ((before : List ℕ) → W.contents self.old.writer.now ≡ Some before → W.contents self.new.writer.now ≡ Some before) }
         ensures events { IfOk result (λ n. self.new.events.list ≡ self.old.events.list ++ Wrote (take n bytes.now) ∷ []) }
-        ensures silent { OnErr result (self.new.events.list ≡ self.old.events.list) }
+        ensures noted { OnErr result (self.new.events.list ≡ self.old.events.list ++ WriteFailed ∷ []) }
         ensures goes_on { IfOk result (λ n. patience.new < patience.old + n) }
         ensures ledger { self.new.failures.now ≡ self.old.failures.now + failures_reported result }
         ensures plain { IfErr result (λ e. e ≡ RunFault.Write) }
@@ -86,7 +98,7 @@ impl<'w, 'f, W: Write, G: Ledger> Output<'w, 'f, W, G> {
             }
             _ => {}
         }
-        self.failures.tick();
+        self.failed();
         Err(RunFault::Write)
     }
 
@@ -95,14 +107,15 @@ impl<'w, 'f, W: Write, G: Ledger> Output<'w, 'f, W, G> {
         ensures writer { self.new.writer.ghost_name ≡ self.old.writer.ghost_name }
         ensures failures { self.new.failures.ghost_name ≡ self.old.failures.ghost_name }
         ensures keeps { (before : List ℕ) → W.contents self.old.writer.now ≡ Some before → W.contents self.new.writer.now ≡ Some before }
-        ensures silent { self.new.events.list ≡ self.old.events.list }
+        ensures silent { OnOk result (self.new.events.list ≡ self.old.events.list) }
+        ensures noted { OnErr result (self.new.events.list ≡ self.old.events.list ++ WriteFailed ∷ []) }
         ensures ledger { self.new.failures.now ≡ self.old.failures.now + failures_reported result }
         ensures plain { IfErr result (λ e. e ≡ RunFault.Write) }
     {
         match self.writer.flush() {
             Ok(()) => Ok(()),
             Err(_) => {
-                self.failures.tick();
+                self.failed();
                 Err(RunFault::Write)
             }
         }

@@ -5,11 +5,14 @@ ghost use Rattle.desk.specs.Listed.{IsListed};
 ghost use Rattle.console.specs.Dialogue.{LacksLines};
 ghost use Rattle.console.specs.Inside.Given.{IsPrintable, IsTextFor, MayBePrinted, answer_of};
 ghost use Rattle.std.specs.Str.Lines.{strip_carriage_return};
+ghost use Rattle.console.specs.Service.{IsService};
 ghost use Rattle.console.specs.Inside.Current.{Holds, HoldsWith, line_at_end, KeepsLine};
 
 use crate::answer::{Answer, print_answer};
+use crate::figures::ServiceFigures;
 use crate::line::LONGEST;
 use crate::running::Ran;
+use crate::service::put_service;
 use crate::together::Together;
 use desk::{Desk, Outage};
 use listings::Listing;
@@ -125,10 +128,15 @@ pub(crate) enum Given<B: Allocator> {
     Answered(Answer<B>),
     /// A listing, whose lines are in the text already.
     Listed,
+    /// The figures of the service, whose lines are in the text already.
+    Service,
 }
 
 /// Room for an answer of one line. Even `SEQ kept NUMBER PDU` with a PDU of 2,048 bits takes at most half of it.
 const ANSWER: usize = 1024;
+
+/// The memory of a text with more room than this is freed once the text is written.
+const LONG_TEXT: usize = 65536;
 
 /// The text of an answer.
 #[derive(Drop)]
@@ -170,6 +178,7 @@ impl<A: Allocator + Copy> AnswerText<A> {
         match given {
             Given::Answered(answer) => self.print(number, answer),
             Given::Listed => false,
+            Given::Service => false,
         }
     }
 
@@ -181,6 +190,22 @@ impl<A: Allocator + Copy> AnswerText<A> {
     {
         self.bytes.clear();
         desk.list(listing, &mut self.bytes)
+    }
+
+    /// Makes the text of the figures of a service.
+    pub(crate) fn service(&mut self, service: &ServiceFigures) -> Result<(), AllocError>
+        ensures { OnOk result (IsService self.new.bytes.items) }
+    {
+        self.bytes.clear();
+        put_service(&mut self.bytes, service)
+    }
+
+    /// Frees what the text of a long listing took, once it is written. Room for any other answer stays.
+    pub(crate) fn free(&mut self) {
+        if self.bytes.capacity() > LONG_TEXT {
+            self.bytes.clear();
+            self.bytes.shrink_to(ANSWER);
+        }
     }
 
     pub(crate) fn as_slice(&self) -> &[u8]

@@ -1,10 +1,10 @@
 //! Reading a text in pieces, to its end.
-ghost use Rattle.std.specs.Prelude.{◌≡◌, ◌⊎◌, IsErrOf, List, ℕ, ◌≤◌, ◌<◌, ◌+◌, ◌++◌, true};
-ghost use Rattle.console.specs.Events.{Event};
+ghost use Rattle.std.specs.Prelude.{◌≡◌, ◌⊎◌, IsErrOf, ◌≤◌, ◌<◌, ◌+◌, true};
 ghost use Rattle.console.specs.Failures.{failures_reported};
 ghost use Rattle.console.specs.Runs.{IsRun, speaker_of};
-ghost use Rattle.console.specs.Told.{IsTold, all_read, events_of};
+ghost use Rattle.console.specs.Told.{EndsSince, Tells, calls_of, events_of, streams_of};
 
+use crate::figures::ServiceFigures;
 use crate::input::Input;
 use crate::output::Output;
 use crate::progress::Progress;
@@ -65,6 +65,7 @@ pub struct Terms<A: Allocator + Copy> {
 
 /// As [`run`], with counts in ledgers. Each call of the reader is a step, and each error of it but an interruption is a
 /// fault. Each write or flush that failed is a failure: there is one if the result is [`RunFault::Write`], and else none.
+/// `service` is for the figures of the service that the station is one of: they count its lines, and answer `service`.
 pub fn run_counted<
     L: Ledger,
     F: Ledger,
@@ -75,6 +76,7 @@ pub fn run_counted<
     D: Desk<A>,
 >(
     terms: Terms<A>,
+    service: &ServiceFigures,
     input: &mut Input<R, L, F>,
     output: &mut Output<W, G>,
     desk: &mut D,
@@ -83,9 +85,10 @@ pub fn run_counted<
         (record { speaker = speaker_of terms; world = D.world desk.old; unread = R.remaining input.old.reader.now; written = W.contents output.old.writer.now })
         (record { result = result; world = D.world desk.new; written = W.contents output.new.writer.now }) }
     // Over any reader and any writer: what was read, and what was written after it was answered.
-    ensures told { (given : List ℕ) × (events : List Event)
-        × (all_read input.new ≡ all_read input.old ++ given) × (events_of output.new ≡ events_of output.old ++ events)
-        × IsTold A D.rules (speaker_of terms) (D.world desk.old) (D.world desk.new) given events result }
+    ensures told { Tells A D.rules (speaker_of terms) (D.world desk.old) (D.world desk.new)
+        (streams_of R.remaining W.contents input.old output.old) (streams_of R.remaining W.contents input.new output.new) result }
+    // Why it ended, by the calls of the reader and the writer.
+    ensures ends { EndsSince terms.turns (calls_of input.old) (calls_of input.new) (events_of output.old) (events_of output.new) result }
     // How often the reader is called, and what each fault means.
     ensures calls { input.new.steps.now ≤ input.old.steps.now + terms.turns }
     ensures read { IsErrOf result RunFault.Read → (input.new.steps.now ≡ input.old.steps.now + terms.turns) ⊎ (input.old.faults.now < input.new.faults.now) }
@@ -103,6 +106,7 @@ pub fn run_counted<
     };
     let mut run = Run {
         terms: &terms,
+        service,
         progress: &mut progress,
         output,
         desk,
@@ -155,7 +159,13 @@ fn run_in<
     let mut failures = Steps::<G>::new(failures);
     let mut input = Input::new(reader, &mut steps, &mut faults);
     let mut output = Output::new(writer, &mut failures);
-    run_counted(terms, &mut input, &mut output, desk)
+    run_counted(
+        terms,
+        &ServiceFigures::none(),
+        &mut input,
+        &mut output,
+        desk,
+    )
 }
 
 /// Answers all lines of the reader, or the first of them if it ends early, and writes nothing else. It does so by

@@ -7,14 +7,14 @@ ghost use Rattle.console.specs.Inside.Feed.{Sends, SendsPart, GoesOn, StopsWithi
 ghost use Rattle.console.specs.Inside.Passing.{sent_by};
 ghost use Rattle.console.specs.Failures.{failures_reported};
 ghost use Rattle.console.specs.Inside.Current.{HasNoEnd, Holds, KeepsLine};
-ghost use Rattle.console.specs.Events.{Event};
 ghost use Rattle.console.specs.Runs.{IsRun, speaker_of};
-ghost use Rattle.console.specs.Told.{IsTold, all_read, events_of};
+ghost use Rattle.console.specs.Told.{EndsSince, Tells, calls_of, events_of, streams_of};
 ghost use Rattle.console.specs.Dialogue.{Answers};
 ghost use Rattle.console.specs.declared.answer.Answer.{Answer};
 
 use crate::answer::Answer;
 use crate::ends::next_end;
+use crate::figures::ServiceFigures;
 use crate::hearing::hear_line;
 use crate::input::Input;
 use crate::line::{Line, LineFault};
@@ -40,6 +40,7 @@ struct Asked<'a> {
 #[inline(always)]
 fn answer_line<A: Allocator + Copy, D: Desk<A>>(
     terms: &Terms<A>,
+    service: &ServiceFigures,
     asked: Asked,
     desk: &mut D,
     text: &mut AnswerText<A>,
@@ -48,6 +49,7 @@ fn answer_line<A: Allocator + Copy, D: Desk<A>>(
         → Answers D.rules (speaker_of terms.now) asked.entry.number (D.world desk.old) whole (answer_of text.new.bytes.items result) (D.world desk.new) }
     ensures printable { MayBePrinted result }
 {
+    service.add_lines(terms.station, 1);
     let Some(line) = asked.line else {
         return Given::Answered(Answer::Bad(asked.number, LineFault::TooLong));
     };
@@ -69,7 +71,14 @@ fn answer_line<A: Allocator + Copy, D: Desk<A>>(
         },
         Ok(Line::Mark(mark)) => Given::Answered(Answer::Marked(*mark)),
         Ok(Line::OwnStation(station)) => Given::Answered(Answer::OwnStation(*station)),
-        Ok(Line::Forbidden(sequence)) => Given::Answered(Answer::Forbidden(*sequence)),
+        Ok(Line::Service) => match text.service(service) {
+            Ok(()) => Given::Service,
+            Err(_) => Given::Answered(Answer::ServiceOutage(asked.number)),
+        },
+        Ok(Line::Forbidden(sequence)) => {
+            service.add_forbidden(terms.station);
+            Given::Answered(Answer::Forbidden(*sequence))
+        }
         Err(unread) => Given::Answered(Answer::CommandOutage(unread.sequence, Outage::Memory)),
     }
 }
@@ -97,6 +106,7 @@ fn send_answer<A: Allocator + Copy + Drop, W: Write, G: Ledger>(
     let troubled = progress.out.hold(number, given);
     output.answered(progress.out.as_slice());
     output.send(progress.out.as_slice())?;
+    progress.out.free();
     progress.lines = number;
     progress.troubled = progress.troubled | troubled;
     progress.current.clear();
@@ -107,6 +117,7 @@ fn send_answer<A: Allocator + Copy + Drop, W: Write, G: Ledger>(
 #[derive(Drop)]
 pub(crate) struct Run<
     't,
+    's,
     'p,
     'o,
     'd,
@@ -118,13 +129,16 @@ pub(crate) struct Run<
     D: Desk<A>,
 > {
     pub(crate) terms: &'t Terms<A>,
+    /// The figures of the service that the station is one of.
+    pub(crate) service: &'s ServiceFigures,
     pub(crate) progress: &'p mut Progress<A>,
     pub(crate) output: &'o mut Output<'w, 'f, W, G>,
     pub(crate) desk: &'d mut D,
 }
 
-impl<'t, 'p, 'o, 'd, 'w, 'f, A: Allocator + Copy + Drop, W: Write, G: Ledger, D: Desk<A>> Run<
+impl<'t, 's, 'p, 'o, 'd, 'w, 'f, A: Allocator + Copy + Drop, W: Write, G: Ledger, D: Desk<A>> Run<
     't,
+    's,
     'p,
     'o,
     'd,
@@ -154,7 +168,13 @@ impl<'t, 'p, 'o, 'd, 'w, 'f, A: Allocator + Copy + Drop, W: Write, G: Ledger, D:
             number: progress.lines + 1,
             line: progress.current.ended(run),
         };
-        let given = answer_line(self.terms, asked, self.desk, &mut progress.out);
+        let given = answer_line(
+            self.terms,
+            self.service,
+            asked,
+            self.desk,
+            &mut progress.out,
+        );
         send_answer(progress, &given, self.output)
     }
 
@@ -178,6 +198,7 @@ impl<'t, 'p, 'o, 'd, 'w, 'f, A: Allocator + Copy + Drop, W: Write, G: Ledger, D:
         if count == 0 {
             return Ok(0);
         }
+        self.service.add_lines(self.terms.station, count);
         let troubled = progress
             .together
             .serve(self.terms.alloc, self.desk, self.output)?;
@@ -259,7 +280,13 @@ impl<'t, 'p, 'o, 'd, 'w, 'f, A: Allocator + Copy + Drop, W: Write, G: Ledger, D:
             number: progress.lines + 1,
             line: progress.current.line(false),
         };
-        let given = answer_line(self.terms, asked, self.desk, &mut progress.out);
+        let given = answer_line(
+            self.terms,
+            self.service,
+            asked,
+            self.desk,
+            &mut progress.out,
+        );
         send_answer(progress, &given, self.output)?;
         Ok(progress.ran())
     }
@@ -271,9 +298,9 @@ impl<'t, 'p, 'o, 'd, 'w, 'f, A: Allocator + Copy + Drop, W: Write, G: Ledger, D:
     ) -> Result<Ran, RunFault>
         ensures answers { IsRun A D.rules (start_at (reached_by D.world W.contents self.old) (R.remaining input.old.reader.now))
             (outcome_at (reached_by D.world W.contents self.new) result) }
-        ensures told { (given : List ℕ) × (events : List Event)
-            × (all_read input.new ≡ all_read input.old ++ given) × (events_of self.new.output.now ≡ events_of self.old.output.now ++ events)
-            × IsTold A D.rules (speaker_of self.old.terms.now) (D.world self.old.desk.now) (D.world self.new.desk.now) given events result }
+        ensures told { Tells A D.rules (speaker_of self.old.terms.now) (D.world self.old.desk.now) (D.world self.new.desk.now)
+            (streams_of R.remaining W.contents input.old self.old.output.now) (streams_of R.remaining W.contents input.new self.new.output.now) result }
+        ensures ends { EndsSince self.old.terms.now.turns (calls_of input.old) (calls_of input.new) (events_of self.old.output.now) (events_of self.new.output.now) result }
         ensures calls { input.new.steps.now ≤ input.old.steps.now + self.old.terms.now.turns }
         ensures read { IsErrOf result RunFault.Read
             → (input.new.steps.now ≡ input.old.steps.now + self.old.terms.now.turns) ⊎ (input.old.faults.now < input.new.faults.now) }

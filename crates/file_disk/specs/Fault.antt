@@ -7,7 +7,7 @@ use Rattle.std.specs.declared.io.Error.{Error}
 use Rattle.std.specs.declared.io.ErrorKind.{ErrorKind}
 use Rattle.std.specs.declared.io.ErrorKind.TheVariants.{AlreadyExists, IsADirectory, NotADirectory, NotFound, OutOfMemory, PermissionDenied, QuotaExceeded, ReadOnlyFilesystem, StorageFull}
 use Rattle.file_disk.specs.declared.fault.FileFault.{FileFault}
-use Rattle.file_disk.specs.declared.fault.FileFault.TheVariants.{DiskFault, NoMemory, NotOpened}
+use Rattle.file_disk.specs.declared.fault.FileFault.TheVariants.{DiskFault, KeepsNothing, NoMemory, NotOpened}
 use Rattle.file_disk.specs.declared.fault.OpenCause.{OpenCause}
 use Rattle.file_disk.specs.declared.fault.OpenCause.TheVariants.{Exists, Held, Missing, NoSpace, NotAFile, NotAllowed, Other}
 
@@ -59,3 +59,8 @@ IsOfOpening is_new fault = (error : Error) × (fault ≡ of_opening is_new error
 -- it is the fault of a lock that was refused
 abbrev pub IsOfLock : FileFault → Type 0
 IsOfLock fault = (error : TryLockError) × (fault ≡ of_lock error)
+
+-- it is the fault of a file of another kind than is wanted: it keeps nothing, or its kind could not be read
+abbrev pub IsOfKind : FileFault → Type 0
+IsOfKind (NotOpened cause) = ⊥
+IsOfKind other = Unit {0}

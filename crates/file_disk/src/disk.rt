@@ -29,7 +29,7 @@ pub struct FileDisk<F> {
 }
 
 impl<F: SectorFile> FileDisk<F> {
-    ghost use Rattle.file_disk.specs.declared.fault.FileFault.TheVariants.{NotOpened};
+    ghost use Rattle.file_disk.specs.declared.fault.FileFault.TheVariants.{KeepsNothing, NotOpened};
     ghost use Rattle.file_disk.specs.declared.fault.OpenCause.{OpenCause};
     ghost use Rattle.sector_disk.specs.Filling.{HasFilled};
     ghost use Rattle.sector_disk.specs.Run.{writes};
@@ -41,6 +41,7 @@ impl<F: SectorFile> FileDisk<F> {
         ensures sectors { (F.view file).honest → IfOk result (λ disk. disk.sectors ≡ (F.view file).sectors) }
         ensures honest { (F.view file).honest → IfOk result (λ disk. (file_view F.view disk).honest) }
         ensures refused { (cause : OpenCause) → IsErrOf result (NotOpened cause) → ⊥ }
+        ensures kind { IsErrOf result KeepsNothing → ⊥ }
         ensures new { IfOk result IsNew }
     {
         match file.len() {

@@ -63,6 +63,9 @@ pub enum FileFault {
     /// There was no memory.
     #[error("out of memory")]
     NoMemory,
+    /// It is a pipe, a socket or a device without blocks, which keeps nothing.
+    #[error("the file keeps nothing")]
+    KeepsNothing,
 }
 
 impl FileFault {

@@ -31,6 +31,7 @@ pub struct HostFile {
 impl HostFile {
     ghost use Rattle.sector_disk.specs.Disk.{HasCause};
     ghost use Rattle.file_disk.specs.File.{moved, one_more};
+    ghost use Rattle.file_disk.specs.declared.fault.FileFault.TheVariants.{KeepsNothing};
     ghost use Rattle.file_disk.specs.Host.{host_turns, host_view};
 
     // A file of which nothing was read or written yet.
@@ -46,7 +47,9 @@ impl HostFile {
     }
 
     // The fault for what the last failure was, as a new file got its sectors.
-    pub(crate) fn fault_of_making(&self) -> FileFault {
+    pub(crate) fn fault_of_making(&self) -> FileFault
+        ensures { result ≡ KeepsNothing → ⊥ }
+    {
         match self.last {
             Some(kind) => FileFault::of_making(kind),
             None => FileFault::DiskFault,

@@ -1,13 +1,14 @@
 // Files of the operating system as disks.
-ghost use Rattle.std.specs.Prelude.{◌≡◌, ◌⊎◌, false, IfErr, IfOk, IsErrOf};
-ghost use Rattle.file_disk.specs.Fault.{IsOfLock, IsOfOpening};
+ghost use Rattle.std.specs.Prelude.{◌≡◌, ◌⊎◌, false, IfErr, IfOk, IsErrOf, IsTrue};
+ghost use Rattle.std.specs.Fs.{IsFile};
+ghost use Rattle.file_disk.specs.Fault.{IsOfKind, IsOfLock, IsOfOpening};
 
 use crate::{FileDisk, FileFault, HostFile};
 use sector_disk::Disk;
-use std::fs::{File, Files, OpenOptions};
+use std::fs::{File, FileType, Files, OpenOptions};
 use std::io;
 use std::os::fd::AsRawFd;
-use std::os::unix::fs::OpenOptionsExt;
+use std::os::unix::fs::{FileTypeExt, OpenOptionsExt};
 use std::path::Path;
 
 // Who may read and write a file that is made: its owner alone. It holds messages.
@@ -16,7 +17,7 @@ const OF_ITS_OWNER: u32 = 0o600;
 impl FileDisk<HostFile> {
     ghost use Rattle.file_disk.specs.Disk.{IsNew, blank_calls, calls_of, file_of, is_lost};
     ghost use Rattle.file_disk.specs.Host.{host_turns};
-    ghost use Rattle.file_disk.specs.declared.fault.FileFault.TheVariants.{NotOpened};
+    ghost use Rattle.file_disk.specs.declared.fault.FileFault.TheVariants.{KeepsNothing, NotOpened};
     ghost use Rattle.file_disk.specs.declared.fault.OpenCause.TheVariants.{Exists};
 
     /// Makes a file of that many sectors of zeros for its owner alone (mode 0600), and keeps it locked. A file that exists is
@@ -34,6 +35,7 @@ impl FileDisk<HostFile> {
         ensures calls { IfOk result (λ disk. calls_of disk ≡ blank_calls sectors) }
         ensures failures { IfOk result (λ disk. disk.failures ≡ 0) }
         ensures kept { IfOk result (λ disk. is_lost disk ≡ false) }
+        ensures kind { IsErrOf result KeepsNothing → ⊥ }
     {
         let Some(bytes) = sectors.checked_mul(512) else {
             return Err(FileFault::DiskFault);
@@ -55,7 +57,8 @@ impl FileDisk<HostFile> {
         Ok(disk)
     }
 
-    /// Opens a file as it is, and keeps it locked. Each whole sector of the file is one of the disk; a rest is ignored.
+    /// Opens a file as it is, and keeps it locked. Each whole sector of the file is one of the disk; a rest is ignored. A pipe, a
+    /// socket or a device without blocks is `KeepsNothing`.
     ///
     /// Where an earlier sync of the file has failed, reads may give what the device does not hold (`HostFile` says why).
     pub fn adopt<R: Files<File = File>>(rt: &R, path: &str) -> Result<Self, FileFault>
@@ -63,7 +66,27 @@ impl FileDisk<HostFile> {
         ensures untouched { IfOk result (λ disk. host_turns (file_of disk) ≡ 0) }
         ensures refused { IsErrOf result (NotOpened Exists) → ⊥ }
     {
-        FileDisk::over(HostFile::new(open_locked(rt, path, false)?))
+        let file = open_locked(rt, path, false)?;
+        check_kind(&file)?;
+        FileDisk::over(HostFile::new(file))
+    }
+}
+
+// Whether files of this kind keep what is written.
+fn keeps(kind: FileType) -> bool
+    ensures { IsFile kind → IsTrue result }
+{
+    kind.is_file() || kind.is_block_device()
+}
+
+// Refuses a file that keeps nothing.
+fn check_kind(file: &File) -> Result<(), FileFault>
+    ensures { IfErr result IsOfKind }
+{
+    match file.metadata() {
+        Ok(metadata) if keeps(metadata.file_type()) => Ok(()),
+        Ok(_) => Err(FileFault::KeepsNothing),
+        Err(error) => Err(FileFault::DiskFault.or_memory(error)),
     }
 }
 

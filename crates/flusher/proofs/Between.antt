@@ -69,7 +69,7 @@ module _ {D : Type 0} (view : D → View) (base : State) (f g : FlusherView D) (
   round_idle down = idle_by base (view g.store.disk).moment (progress_of f) (progress_of g) (commands_among r.popped) r.served.answers f.store.broken down r.served.served
 
   -- a store that a round breaks has the register from before, or that after the first of the commands
-  round_broken : f.store.broken ≡ false → g.store.broken ≡ true → HasBroken (commands_among r.popped) f.store g.store × (g.durable ≡ f.durable)
+  pub round_broken : f.store.broken ≡ false → g.store.broken ≡ true → HasBroken (commands_among r.popped) f.store g.store × (g.durable ≡ f.durable)
   round_broken up down = broken_by base (view g.store.disk).moment (progress_of f) (progress_of g) (commands_among r.popped) r.served.answers f.store.broken up r.served.served up down
 
 -- what is durable grows

@@ -1,5 +1,5 @@
 -- What is known once a centre is closed.
-use Rattle.std.proofs.Common.{◌≡◌, inl, inr, ℕ, zero, suc, ◌≤◌, List, [], ◌∷◌, ◌++◌, length, refl, sym, ap, ◌∙◌, subst, arith, append_assoc}
+use Rattle.std.proofs.Common.{◌≡◌, ℕ, zero, suc, ◌≤◌, List, [], ◌∷◌, ◌++◌, length, refl, sym, ap, ◌∙◌, subst, arith, append_assoc}
 use Rattle.std.specs.Prelude.{All, Contains, Some, map, slice_get, take}
 use Rattle.std.specs.List.{AllByRecursion, AllZip}
 use Rattle.std.proofs.lemmas.List.Elements.{All-from_recursion, recursion_from_All}
@@ -21,7 +21,7 @@ use Rattle.flusher.specs.Stages.{Sent}
 use Rattle.flusher.specs.View.{FlusherView}
 use Rattle.flusher.specs.Served.{IsSettled}
 use Rattle.flusher.specs.Runs.{HasTakenEnds}
-use Rattle.flusher.specs.Closed.{AreSessionsOf, HasSeenOf, IsClosed}
+use Rattle.flusher.specs.Closed.{AreSessionsOf, IsClosed}
 use Rattle.flusher.proofs.Borne.{are_prefix}
 use Rattle.flusher.proofs.Endings.{all_taken}
 use Rattle.flusher.proofs.Ordered.{settled_in_order}
@@ -127,7 +127,7 @@ module _ {J D : Type 0} (f : FlusherView D) (ended : List (Ended J)) (sessions :
   -- all ends were taken, both ends of each session were taken back, and each was compared with what is published
   pub all_closed : (base : State) (before : List Settled) (items : List Entry) → IsSettled base f → HasTakenEnds f → AreAllSent f.taker.taken items (before ++ map (λ (e : Ended J). settled e.sender.station e.sender.sent) ended)
       → AllZip (λ (a : AnswerSender Sent) (e : Ended J). IsPrefix (received_of e.receiver.pass) (sent_of a.pass)) f.senders ended
-      → All (λ (e : Ended J). HasSeenOf f.published f.published e.viewer) ended → IsClosed base f ended
+      → All (λ (e : Ended J). IsPrefix e.viewer f.published) ended → IsClosed base f ended
   all_closed base before items now has sent received seen = record {
     each = λ k a e here there.
         let is = (sessions.each k a e here there).station in
@@ -140,10 +140,8 @@ module _ {J D : Type 0} (f : FlusherView D) (ended : List (Ended J)) (sessions :
         record {
           taken = took;
           received = got;
-          seen = elim (item_of (λ (x : Ended J). HasSeenOf f.published f.published x.viewer) ended (recursion_from_All (λ (x : Ended J). HasSeenOf f.published f.published x.viewer) ended seen) k e there) [
-            | inl within ↦ inl (prefix_trans e.viewer f.published f.durable within now.prefix)
-            | inr more ↦ inr more
-          ];
+          seen = prefix_trans e.viewer f.published f.durable
+              (item_of (λ (x : Ended J). IsPrefix x.viewer f.published) ended (recursion_from_All (λ (x : Ended J). IsPrefix x.viewer f.published) ended seen) k e there) now.prefix;
           borne_out = are_prefix base f.durable 0 (received_of e.receiver.pass) (sent_of a.pass) got (now.sent k a here);
           order = settled_in_order e.sender.station f.durable f.taker.taken e.sender.sent now.order took;
         };

@@ -14,7 +14,8 @@ use Rattle.schedule.specs.World.{World, Line, Entry}
 use Rattle.schedule.specs.Next.{answered, Run}
 use Rattle.schedule.specs.Rounds.{Round, Goes, GoesDown, IsIdle, at, events_of, after_round, room_if, move_if, under_way, left_under_way, stopped_commit, stopped_checkpoint, after_stop}
 use Rattle.schedule.proofs.Rounding.{rounds_run, crashed_rounds_run, crashed_checkpoints_run}
-use Rattle.flusher.specs.Stages.{Sent, Stage, stage, HasRun, world_of, entries_of}
+use Rattle.flusher.specs.Stages.{AreOwn, Sent, Stage, stage, HasRun, world_of, entries_of}
+use Rattle.flusher.proofs.Own.{own_both, own_move, own_room, own_round, own_stopped, own_stopped_before}
 
 abbrev G : Type 0
 G = Asked Global
@@ -55,6 +56,11 @@ length-first n xs le = omega (arith, length-take n xs)
 abbrev idle_events : Bool → Round → List (Event Global)
 idle_events checking how = Publish ∷ room_if checking how.made_room ++ move_if (left_under_way checking how) how.moved
 
+own_idle : (checking : Bool) (how : Round) → AreOwn (idle_events checking how)
+own_idle checking how =
+    let left = left_under_way checking how in
+    (refl, own_both (room_if checking how.made_room) (move_if left how.moved) (own_room checking how.made_room) (own_move left how.moved))
+
 moved_run : (base : State) (checking moved : Bool) (list durable : List G) (a : List (Entry Global)) (xs : List (Line Global))
     → Run base (at (world_of (stage list durable checking false) a) xs) (move_if checking moved) (at (world_of (stage list durable (under_way checking moved) false) a) xs)
 moved_run base false false list durable a xs = refl
@@ -83,6 +89,7 @@ pub rested : (base : State) (f : Stage) (cmds : List G) (answers : List Sent) �
 rested base f cmds answers none = record {
   reached = 0;
   events = [];
+  own = tt;
   run = inl (λ a xs h. (xs, refl, λ i. at (world_of f ((ap (λ e. a ++ e) none ∙ append-nil a) i)) xs));
 }
 
@@ -93,6 +100,7 @@ only_published base list durable cmds made_room was now answers none =
     record {
       reached = 0;
       events = idle_events was how;
+      own = own_idle was how;
       run = inl (λ a.
           let end : world_of (stage durable durable (under_way (left_under_way was how) how.moved) false) a ≡ world_of (stage durable durable now false) (a ++ entries_of answers) =
           λ i. world_of (stage durable durable (arrives made_room was now true i) false) ((sym (append-nil a) ∙ ap (λ e. a ++ e) (sym none)) i) in
@@ -115,7 +123,7 @@ came base log c cs false made_room was now a new some is =
     λ i. world_of (stage log l (arrives made_room was now false i) false) (a ++ (ap (λ b. answered b (with_replies Global (after base log) (c ∷ cs))) (other_count (length log) (length l) less) ∙ sym is) i)
 
 abbrev RunsTo : State → Stage → Stage → List G → List (Entry Global) → Type 0
-RunsTo base f g ys new = (es : List (Event Global)) × ((a : List (Entry Global)) → Goes base ys es (world_of f a) (world_of g (a ++ new)))
+RunsTo base f g ys new = (es : List (Event Global)) × AreOwn es × ((a : List (Entry Global)) → Goes base ys es (world_of f a) (world_of g (a ++ new)))
 
 ran_by : (base : State) (list log : List G) (all : Bool) (ys : List G) (made_room was now : Bool) (new : List (Entry Global)) → length ys ≤ 64 → (all ≡ false → 0 < length (taken (after base log) ys))
     → new ≡ answered all (with_replies Global (after base log) ys)
@@ -123,6 +131,7 @@ ran_by : (base : State) (list log : List G) (all : Bool) (ys : List G) (made_roo
 ran_by base list log true [] made_room was now new small some is =
     let how = how_of made_room was now true in (
       idle_events was how,
+      own_idle was how,
       λ a.
           let end : world_of (stage log log (under_way (left_under_way was how) how.moved) false) a ≡ world_of (stage (log ++ []) (log ++ []) now false) (a ++ new) =
           λ i. world_of (stage (sym (append-nil log) i) (sym (append-nil log) i) (arrives made_room was now true i) false) ((sym (append-nil a) ∙ ap (λ e. a ++ e) (sym is)) i) in
@@ -133,6 +142,7 @@ ran_by base list log all (c ∷ cs) made_room was now new small some is =
     let how = how_of made_room was now all in
     let f = stage list log was false in (
       events_of was how (c ∷ cs),
+      own_round was how (c ∷ cs),
       λ a. subst (λ (w : World Global). Goes base (c ∷ cs) (events_of was how (c ∷ cs)) (world_of f a) w) (came base log c cs all made_room was now a new some is) (rounds_run base (world_of f a) how c cs (idle list log was a) small),
     )
 
@@ -142,7 +152,7 @@ pub ran : (base : State) (list log : List G) (all : Bool) (cmds : List G) (n : �
     → HasRun base (stage list log was false) (stage (cond all (log ++ taken (after base log) (take n cmds)) log) (log ++ taken (after base log) (take n cmds)) now false) cmds answers
 ran base list log all cmds n made_room was now answers small some is =
     let r = ran_by base list log all (take n cmds) made_room was now (entries_of answers) (length-first n cmds small) some is in
-    record { reached = n; events = r.0; run = inl r.1 }
+    record { reached = n; events = r.0; own = r.1; run = inl r.2 }
 
 -- ---- a round that the disk stops
 
@@ -157,6 +167,7 @@ crashed base list log c cs made_room was answers small none =
     record {
       reached = length ps;
       events = es;
+      own = own_stopped was made_room ps 0;
       run = inr (record {
         up = refl;
         down = refl;
@@ -176,6 +187,7 @@ crashed_before base list log cmds was answers small none =
     record {
       reached = length cmds;
       events = es;
+      own = own_stopped_before was cmds;
       run = inr (record {
         up = refl;
         down = refl;

@@ -2,6 +2,7 @@ mod Moments
 pub mod Decided
 pub mod Short
 pub mod Published
+pub mod Own
 pub mod Going
 pub mod Answered
 pub mod Batched
@@ -15,6 +16,8 @@ pub mod Together
 pub mod Beginning
 pub mod Endings
 pub mod Runs
+pub mod Submits
+pub mod Core
 pub mod Closed
 pub mod Sessions
 pub mod Crossing
@@ -23,4 +26,5 @@ pub mod Ordered
 pub mod ByItself
 pub mod Between
 pub mod Lasting
+pub mod RoundCalls
 pub mod Since

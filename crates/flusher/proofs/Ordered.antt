@@ -47,7 +47,8 @@ taken_are_some (c ∷ cs) s = by (is_acceptance (reply_to s c)) (taken_are_some 
     by true h = Sublist.cons-cons c h
     by false h = Sublist.cons c h
 
-take_is_some : (n : ℕ) (cs : List G) → Sublist (take n cs) cs
+-- so are its first ones
+pub take_is_some : (n : ℕ) (cs : List G) → Sublist (take n cs) cs
 take_is_some zero cs = nil-sublist cs
 take_is_some (suc n) [] = Sublist.refl []
 take_is_some (suc n) (c ∷ cs) = Sublist.cons-cons c (take_is_some n cs)

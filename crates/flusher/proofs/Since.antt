@@ -140,5 +140,5 @@ module _ {D : Type 0} (view : D → View) (base : State) where
   -- each answer that was sent in these rounds
   pub run_durable : (f h : FlusherView D) → AreLasting view base f h → AreDurable h f.senders → AreDurable h h.senders
   run_durable f h (no_more x) each = each
-  run_durable f h (onward x g y r settled since rest) each =
+  run_durable f h (onward x g y r settled keeps since rest) each =
       run_durable g y rest (round_durable x g y r settled (rounds_longer view base g y (rounds_of view base g y rest)) since each)

@@ -111,10 +111,10 @@ module _ {D : Type 0} (view : D → View) (old new : StoreView Global D) where
 
   -- ---- a checkpoint
 
-  same_view : new.layout ≡ old.layout → new.side ≡ old.side → new.epoch ≡ old.epoch → new.journal ≡ old.journal → new.ongoing ≡ old.ongoing → new.register ≡ old.register → new.broken ≡ old.broken → new.disk ≡ old.disk → new ≡ old
-  same_view a b c d e f g h = λ i. record { layout = a i; side = b i; epoch = c i; journal = d i; ongoing = e i; register = f i; broken = g i; disk = h i }
+  same_view : new.layout ≡ old.layout → new.side ≡ old.side → new.epoch ≡ old.epoch → new.journal ≡ old.journal → new.ongoing ≡ old.ongoing → new.register ≡ old.register → new.broken ≡ old.broken → new.disk ≡ old.disk → new.found ≡ old.found → new ≡ old
+  same_view a b c d e f g h k = λ i. record { layout = a i; side = b i; epoch = c i; journal = d i; ongoing = e i; register = f i; broken = g i; disk = h i; found = k i }
 
-  pub made_by : (r : Result (Unit {0}) StoreFault) → old.broken ≡ false → (new.layout ≡ old.layout) × (new.register ≡ old.register) → OnOk r ((new.side ≡ other_of old.side) × (new.epoch ≡ old.epoch + 1) × (new.ongoing ≡ None))
+  pub made_by : (r : Result (Unit {0}) StoreFault) → old.broken ≡ false → (new.layout ≡ old.layout) × (new.register ≡ old.register) × (new.found ≡ old.found) → OnOk r ((new.side ≡ other_of old.side) × (new.epoch ≡ old.epoch + 1) × (new.ongoing ≡ None))
       → OnOk r (new.journal ≡ fresh_place old.layout (other_of old.side) old.register.count) → OnErr r ((new.side ≡ old.side) × (new.epoch ≡ old.epoch) × (new.journal ≡ old.journal)) → OnOk r (new.broken ≡ false)
       → (IsErrOf r Broken → old.broken ≡ true) → (IsErrOf r EpochsUsedUp → (last_epoch ≤ old.epoch) × (new.disk ≡ old.disk) × (new.broken ≡ false) × (new.ongoing ≡ old.ongoing)) → (IsErrOf r DiskFault → new.broken ≡ true)
       → IfErr r IsOfCheckpoint → HasMadeRoom old new r
@@ -132,7 +132,7 @@ module _ {D : Type 0} (view : D → View) (old new : StoreView Global D) where
   made_by (Err Unready) sound same sides journal unmoved up only epochs fault kinds = absurd kinds
   made_by (Err EpochsUsedUp) sound same sides journal unmoved up only epochs fault kinds =
       let e = epochs refl in
-      (same_view same.0 unmoved.0 unmoved.1 unmoved.2 e.3 same.1 (e.2 ∙ sym sound) e.1, e.0)
+      (same_view same.0 unmoved.0 unmoved.1 unmoved.2 e.3 same.1 (e.2 ∙ sym sound) e.1 same.2, e.0)
 
   pub made_kept : (r : Result (Unit {0}) StoreFault) → HasMadeRoom old new r → OnOk r (IsStoredIn Global view new) → IsStoredIn Global view old → new.broken ≡ false → IsStoredIn Global view new
   made_kept (Ok done) h kept stored sound = kept

@@ -1,9 +1,7 @@
 -- How a centre is closed.
-use Rattle.std.specs.Prelude.{◌≡◌, ◌⊎◌, ℕ, ◌+◌, ◌<◌, List, length, slice_get, Some}
+use Rattle.std.specs.Prelude.{◌≡◌, ℕ, ◌+◌, List, length, slice_get, Some}
 use mathlib.Core.List.{IsPrefix, Sublist}
-use Rattle.std.specs.declared.alloc.Global.{Global}
 use Rattle.crossbeam_channel.specs.Ends.{sends_on, receives_on}
-use Rattle.centre_core.specs.Asked.{Asked}
 use Rattle.centre_core.specs.State.{State}
 use Rattle.station_queue.specs.Entries.{entries_of}
 use Rattle.answers.specs.Views.{sent_of, received_of}
@@ -22,11 +20,6 @@ pub record HasFinished {J : Type 0} (session : Session J) (end : Ended J) : Type
   pub queue : end.sender.queue ≡ session.sender.queue
   pub station : end.sender.station ≡ session.sender.station
   pub channel : receives_on end.receiver.channel ≡ receives_on session.receiver.channel
-
--- What a session has seen is a prefix of the durable commands. Or it has seen more commands than are published: no
--- contract of the published copies says that the publisher alone adds to them.
-abbrev pub HasSeenOf : List (Asked Global) → List (Asked Global) → List (Asked Global) → Type 0
-HasSeenOf published durable seen = IsPrefix seen durable ⊎ (length published < length seen)
 
 module _ {J D : Type 0} where
   -- this holds of each session, with its place and the sender of answers at that place
@@ -61,8 +54,8 @@ module _ {J D : Type 0} where
     pub taken : entries_of end.sender.station f.taker.taken ≡ end.sender.sent
     -- the answers that it received are a prefix of those that were sent to it
     pub received : IsPrefix (received_of end.receiver.pass) (sent_of sender.pass)
-    -- the commands that it has seen are a prefix of the durable ones; only this has a way out
-    pub seen : HasSeenOf f.published f.durable end.viewer
+    -- the commands that it has seen are a prefix of the durable ones
+    pub seen : IsPrefix end.viewer f.durable
     -- each answer that it received is borne out by a prefix of the durable commands, and no prefix is shorter than the one before it
     pub borne_out : AreBorneOut base f.durable 0 (received_of end.receiver.pass)
     -- the durable commands of its station are some of those that it sent, in the same order

@@ -14,7 +14,9 @@ pub mod Sessions
 pub mod Opened
 pub mod Endings
 pub mod Runs
+pub mod Core
 pub mod Lasting
+pub mod Lives
 pub mod Since
 pub mod Closed
 pub mod Borne

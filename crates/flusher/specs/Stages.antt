@@ -1,5 +1,6 @@
 -- What a round does, over what is durable and what is published.
 use Rattle.std.specs.Prelude.{◌≡◌, ◌⊎◌, ◌≤◌, ◌+◌, ℕ, Bool, true, false, Option, List, [], ◌∷◌, ◌++◌, length, take, None, Some}
+use Rattle.std.specs.List.{AllByRecursion}
 use Rattle.std.specs.declared.alloc.Global.{Global}
 use Rattle.sector_disk.specs.Numbers.{Tick}
 use Rattle.centre_core.specs.Asked.{Asked}
@@ -11,6 +12,7 @@ use Rattle.centre_core.specs.InTurn.{reply_to, last_of, Lands, IsLeftBy}
 use Rattle.centre_core.specs.declared.reply.Reply.{Reply}
 use Rattle.centre_core.specs.declared.reply.Reply.TheVariants.{Accepted, Kept, Refused}
 use Rattle.schedule.specs.declared.event.Event.{Event}
+use Rattle.schedule.specs.declared.event.Event.TheVariants.{Submit, Read, Reopen}
 use Rattle.schedule.specs.World.{World, Entry}
 use Rattle.schedule.specs.Next.{answer_from}
 use Rattle.schedule.specs.Rounds.{Goes, GoesDown}
@@ -133,8 +135,20 @@ module _ (base : State) (f g : Stage) (commands : List (Asked Global)) (events :
     pub none : entries_of answers ≡ []
     pub stops : (a : List (Entry Global)) → GoesDown base commands events (world_of f a) (world_of g a)
 
--- a prefix of the commands goes through the core by a run of its events: one that goes on, or one that ends in a crash
+-- the event is one of the flusher: it submits and reads nothing, and reopens nothing
+abbrev pub is_own : Event Global → Bool
+is_own (Submit s c) = false
+is_own (Read s) = false
+is_own Reopen = false
+is_own other = true
+
+-- so is each of these
+abbrev pub AreOwn : List (Event Global) → Type 0
+AreOwn events = AllByRecursion (λ (e : Event Global). is_own e ≡ true) events
+
+-- a prefix of the commands goes through the core by a run of the flusher's events: one that goes on, or one that ends in a crash
 pub record HasRun (base : State) (f g : Stage) (commands : List (Asked Global)) (answers : List Sent) : Type 0 where
   pub reached : ℕ
   pub events : List (Event Global)
+  pub own : AreOwn events
   pub run : GoesOn base f g (take reached commands) events answers ⊎ Stops base f g (take reached commands) events answers

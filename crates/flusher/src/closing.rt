@@ -9,7 +9,7 @@ ghost use Rattle.station_queue.specs.Order.{settled};
 ghost use Rattle.recovery.specs.Lives.{view_of as store_view};
 ghost use Rattle.flusher.specs.View.{view_of};
 ghost use Rattle.flusher.specs.Served.{IsSettled};
-ghost use Rattle.flusher.specs.Closed.{AreSessionsOf, HasSeenOf, IsClosed, IsNotClosed};
+ghost use Rattle.flusher.specs.Closed.{AreSessionsOf, IsClosed, IsNotClosed};
 
 use crate::flusher::Flusher;
 use crate::publishing::Publication;
@@ -18,18 +18,32 @@ use crate::session::Ended;
 use answers::AnswerSender;
 use recovery::Store;
 use sector_disk::Disk;
-use snapshots::{Centre, Published};
+use snapshots::{Centre, Published, Viewer};
 use station_queue::Taker;
 use std::alloc::Global;
 use std::sync::Wait;
+use std::thread;
 
-// Compares what each session has seen with what is published. Only contracts need it: of each session it is then known that it has
-// seen a prefix of what is published, or more.
-fn compare<J: Centre>(ended: &[Ended<J>], published: &Published<J>)
-    ensures { All (λ e. HasSeenOf published.now published.now e.viewer) ended.now }
+// Returns once this list begins with all that a session has seen, else never. The publisher alone adds to what sessions see, so it
+// returns at once; no contract of the published copies says so.
+fn wait_within<J: Centre, R: Wait>(rt: &R, viewer: &Viewer<J>, published: &Published<J>)
+    ensures { IsPrefix viewer.now published.now }
+{
+    for _ in rt.forever() {
+        if viewer.is_within(published) {
+            return;
+        }
+        thread::yield_now();
+    }
+    unreachable!()
+}
+
+// The same of each session.
+fn wait_within_each<J: Centre, R: Wait>(rt: &R, ended: &[Ended<J>], published: &Published<J>)
+    ensures { All (λ e. IsPrefix e.viewer published.now) ended.now }
 {
     for end in ended {
-        let _within = end.viewer.is_within(published);
+        wait_within(rt, &end.viewer, published);
     }
 }
 
@@ -81,7 +95,8 @@ fn end_publisher<J: Centre, R: Wait>(rt: &R, publication: Publication<J>) {
 
 /// Closes a centre, and returns its store. `ended` has all sessions of the centre, in order of station.
 ///
-/// If the flusher has not taken the end of each session, flusher and sessions come back unchanged.
+/// If the flusher has not taken the end of each session, flusher and sessions come back unchanged. If a session had seen what was never
+/// published, it would not return; that never happens.
 pub fn close<J: Centre, D: Disk, R: Wait>(
     rt: &R,
     flusher: Flusher<J, D>,
@@ -96,7 +111,7 @@ pub fn close<J: Centre, D: Disk, R: Wait>(
     if !flusher.has_ended() {
         return Err((flusher, ended));
     }
-    compare(&ended, &flusher.publication.publisher.published());
+    wait_within_each(rt, &ended, &flusher.publication.publisher.published());
     let Flusher {
         mut taker,
         senders,

@@ -11,7 +11,7 @@ ghost use Rattle.flusher.specs.Batches.{FailsByDisk, HasMadeRoom, HasTried, Hold
 use crate::moment::Moment;
 use centre_core::laws::{in_range, registers};
 use centre_core::{Command, Register};
-use recovery::{Outcome, Store, StoreFault};
+use recovery::{Figures, Outcome, Store, StoreFault};
 use sector_disk::Disk;
 use std::alloc::Global;
 
@@ -69,6 +69,11 @@ impl<D: Disk> Committer<D> {
         ensures { MatchBool result (self.now.store.broken ≡ false) (self.now.store.broken ≡ true) }
     {
         self.store.register().is_some()
+    }
+
+    /// The figures of the store, or `None` once the disk has failed.
+    pub(crate) fn figures(&self) -> Option<Figures> {
+        self.store.figures()
     }
 
     /// The moment now, by the disk's clock.

@@ -8,7 +8,7 @@ use crate::publishing::Publication;
 use crate::response::Response;
 use crate::serving::{commit_and_answer, refuse};
 use answers::AnswerSender;
-use recovery::StoreFault;
+use recovery::{Figures, StoreFault};
 use sector_disk::Disk;
 use snapshots::Centre;
 use station_queue::Taker;
@@ -18,6 +18,9 @@ use std::sync::Wait;
 pub trait Gate {
     /// The round of this number, counted from 1, has taken `taken` commands, and commits them now.
     fn before_commit(&self, round: u64, taken: usize);
+
+    /// Called before `before_commit`: the figures of the store, or `None` once the disk has failed.
+    fn show_store(&self, _figures: Option<Figures>) {}
 }
 
 /// The one thread that commits. It is not `Drop`: end it by `close`.
@@ -58,6 +61,7 @@ impl<J: Centre, D: Disk> Flusher<J, D> {
     ghost use Rattle.sector_disk.specs.Disk.{HasFailed};
     ghost use Rattle.sector_disk.specs.Run.{LeavesOnly};
     ghost use Rattle.recovery.specs.Outcomes.{OpensToEither};
+    ghost use Rattle.flusher.specs.Lives.{IsSomeCall};
     ghost use Rattle.flusher.specs.Rounds.{IsRound};
     ghost use Rattle.flusher.specs.Served.{IsSettled};
     ghost use Rattle.flusher.specs.Stored.{IsStoredFor};
@@ -70,6 +74,9 @@ impl<J: Centre, D: Disk> Flusher<J, D> {
         ensures settled { IsSettled J.base (view_of self.new) }
         ensures round { IsRound D.view J.base (view_of self.old) (view_of self.new) }
         ensures counted { (self.new.rounds ≡ self.old.rounds + 1) ⊎ ((self.old.rounds ≡ 2 ^ 64 - 1) × (self.new.rounds ≡ self.old.rounds)) }
+
+        // It is a call in the life of the disk.
+        ensures call { IsStoredFor D.view J.base (view_of self.old) → IsSomeCall D.view J.base (view_of self.old) (view_of self.new) }
 
         // Each image of the disk opens to what is durable. After a stop at any moment of the round it opens to the register
         // before the round or to the one after it. Only a failure of the disk breaks the store.
@@ -94,6 +101,7 @@ impl<J: Centre, D: Disk> Flusher<J, D> {
         let level = publication.catch_up(rt, sound);
         take_batch(rt, taker, room, ended);
         *rounds = next_round(*rounds);
+        gate.show_store(committer.figures());
         gate.before_commit(*rounds, room.batch.len());
         if level {
             commit_and_answer(rt, committer, publication, senders, room);

@@ -23,11 +23,11 @@ use Rattle.centre_core.specs.StateRanges.{StateInRange}
 use Rattle.listings.specs.declared.listing.Table.{Table}
 use Rattle.listings.specs.declared.listing.Table.TheVariants as table
 use Rattle.listings.specs.declared.walk.Place.{Place}
-use Rattle.listings.specs.Entries.{Entry, ItemEntry, is_under, rule_entry, radio_entry, entries_of}
+use Rattle.listings.specs.Entries.{Entry, ItemEntry, is_under, rule_entry, radio_entry, waits_at, entries_of}
 use Rattle.listings.specs.Inside.Walking.{entry_after, place_of}
 use Rattle.listings.proofs.Under.{all_under}
 
-found_all : {X : Type 0} (P : X → Type 0) (test : X → Bool) (xs : List X) → All P xs → IfSome (find test xs) P
+pub found_all : {X : Type 0} (P : X → Type 0) (test : X → Bool) (xs : List X) → All P xs → IfSome (find test xs) P
 found_all P test [] all = tt
 found_all P test (x ∷ xs) all = by (test x) (found_all P test xs (All-tail P x xs all))
   where
@@ -85,6 +85,10 @@ module _ (s : State) (state : IsState s) (ranges : StateInRange s) where
   entries_walk (table.Due moment) n le =
       let ws = filter (is_expired moment) s.mail.items in
       all_shown named_cmp named ws Any ItemEntry place_of (entry_after s (table.Due moment)) (any_each ws) (λ w any. refl) named_total (AllPairs-filter IsBefore (is_expired moment) s.mail.items state.mail.in_order.ordered) refl n le
+  entries_walk (table.WaitingAt station) n le =
+      let waits = waits_at s.registered station in
+      let ws = filter waits s.mail.items in
+      all_shown named_cmp named ws Any ItemEntry place_of (entry_after s (table.WaitingAt station)) (any_each ws) (λ w any. refl) named_total (AllPairs-filter IsBefore waits s.mail.items state.mail.in_order.ordered) refl n le
 
 -- ---- how many entries there are in all
 
@@ -115,6 +119,11 @@ entries_fit s state ranges (table.Due moment) =
     let ws = s.mail.items in
     let some : length (filter (is_expired moment) ws) ≤ length ws = omega (arith, length-filter (is_expired moment) ws, count_by-le-length (is_expired moment) ws) in
     omega (arith, some, length-map (filter (is_expired moment) ws) ItemEntry, state.mail.in_order.fits, state.mail.room, ranges.limits.most_mail)
+entries_fit s state ranges (table.WaitingAt station) =
+    let ws = s.mail.items in
+    let waits = waits_at s.registered station in
+    let some : length (filter waits ws) ≤ length ws = omega (arith, length-filter waits ws, count_by-le-length waits ws) in
+    omega (arith, some, length-map (filter waits ws) ItemEntry, state.mail.in_order.fits, state.mail.room, ranges.limits.most_mail)
 
 module _ (s : State) (table : Table) where
   -- the entries after a place, of which so many turns have passed

@@ -1,7 +1,7 @@
 -- How entries are written, a line each.
 use Rattle.std.specs.Prelude.{ℕ, List, ◌++◌, length, Option, Some, None, codes, decimal}
 use Rattle.std.specs.List.{flat_map}
-use Rattle.identity.specs.Numbers.{Gtsi, Byte}
+use Rattle.identity.specs.Numbers.{Itsi, Gtsi, Byte}
 use Rattle.identity.specs.IdentityText.{identity_text, prefix_text}
 use Rattle.identity.specs.BitsText.{bits_text}
 use Rattle.identity.specs.Path.{Path}
@@ -15,6 +15,10 @@ use Rattle.listings.specs.Entries.{Entry, RuleEntry, RadioEntry, ItemEntry}
 -- where a radio is, or was last, and whether it is present
 abbrev pub radio_words : Radio → List Byte
 radio_words radio = codes "station " ++ decimal radio.station ++ codes " la " ++ decimal radio.area ++ presence_text radio.present
+
+-- a radio and where it is
+abbrev pub place_words : Itsi → Radio → List Byte
+place_words itsi radio = codes "radio " ++ identity_text itsi ++ codes " " ++ radio_words radio
 
 -- a rule after its prefix
 abbrev pub rule_words : Path → Rule → List Byte
@@ -33,7 +37,7 @@ item_end (Some group) = codes " " ++ identity_text group ++ codes "\n"
 -- the line of an entry
 abbrev pub entry_line : Entry → List Byte
 entry_line (RuleEntry prefix rule) = codes "rule " ++ rule_words prefix rule ++ codes "\n"
-entry_line (RadioEntry itsi radio) = codes "radio " ++ identity_text itsi ++ codes " " ++ radio_words radio ++ codes "\n"
+entry_line (RadioEntry itsi radio) = place_words itsi radio ++ codes "\n"
 entry_line (ItemEntry w) =
     codes "item " ++ decimal w.number ++ codes " " ++ identity_text w.key.destination ++ codes " " ++ key_text w.key
     ++ codes " " ++ decimal w.deadline ++ codes " " ++ bits_text w.pdu ++ item_end w.group

@@ -16,6 +16,7 @@ use Rattle.listings.specs.Words.{pdu_text}
 use Rattle.listings.specs.Lines.{entry_line, list_text}
 use Rattle.listings.specs.Entries.{entries_of}
 use Rattle.listings.specs.Fullest.{fullest}
+use Rattle.listings.specs.Dump.{dump_lines}
 
 -- what is listed, before the number of the lines that follow
 abbrev pub table_words : Table → List Byte
@@ -24,6 +25,7 @@ table_words (table.Radios None) = codes "radios "
 table_words (table.Radios (Some prefix)) = codes "radios " ++ prefix_text prefix ++ codes " "
 table_words table.Items = codes "items "
 table_words (table.Due moment) = codes "due " ++ decimal moment ++ codes " "
+table_words (table.WaitingAt station) = codes "waiting " ++ decimal station ++ codes " "
 
 -- the entry of a station's last accepted command: its sequence, its number, and the PDU of its reply
 abbrev pub last_words : Option LastAccepted → List Byte
@@ -51,17 +53,23 @@ used_words s =
 abbrev pub room_words : State → List Byte
 room_words s = used_words s ++ codes " fullest " ++ fullest_words (fullest s.mail.items)
 
+-- the number of the lines of a register's text, then these lines
+abbrev pub dump_text : State → List Byte
+dump_text s = codes "dump " ++ list_text (λ line. line) (dump_lines s)
+
 -- the text of a listing of a register in this state
 abbrev pub listing_text : State → Listing → List Byte
 listing_text s (listing.Entries table) = table_words table ++ list_text entry_line (entries_of s table)
 listing_text s (listing.Last station) = codes "last " ++ decimal station ++ codes " " ++ last_words (last_at s station) ++ codes "\n"
 listing_text s listing.Room = room_words s ++ codes "\n"
+listing_text s listing.Dump = dump_text s
 
 -- the listing is one line
 abbrev pub is_line : Listing → Bool
 is_line (listing.Entries table) = false
 is_line (listing.Last station) = true
 is_line listing.Room = true
+is_line listing.Dump = false
 
 -- a text of this length, with a capacity of so many bytes, has no room for the listing too, and if that is one line, none for
 -- answer_room bytes

@@ -3,7 +3,7 @@ ghost use Rattle.std.specs.Prelude.{◌≡◌, ◌≤◌, ◌<◌, ◌+◌, ◌+
 ghost use Rattle.identity.specs.NumberText.{IsPrefixOf};
 ghost use Rattle.listings.specs.Entries.{RuleEntry, RadioEntry, ItemEntry};
 ghost use Rattle.listings.specs.Inside.Walking.{entry_of};
-ghost use Rattle.listings.specs.Lines.{entry_line};
+ghost use Rattle.listings.specs.Lines.{entry_line, place_words};
 
 use crate::item_parts::{put_item_end, put_key};
 use crate::part::{Part, put_parts};
@@ -58,7 +58,31 @@ fn put_rule<A: Allocator>(
     put_parts(out, &line)
 }
 
+/// Adds where a radio is, without the end of its line.
 #[tactic(auto, using(std::proofs::Common::append_assoc))]
+pub(crate) fn put_place<A: Allocator>(
+    out: &mut Vec<u8, A>,
+    itsi: Itsi,
+    radio: &Radio,
+) -> Result<(), AllocError>
+    ensures ok { OnOk result (out.new.items ≡ out.old.items ++ place_words itsi radio.now) }
+    ensures err { OnErr result (IsPrefixOf out.old.items out.new.items) }
+    ensures full { OnErr result (vec_capacity out.old < vec_len out.old + length (place_words itsi radio.now)) }
+    ensures capacity { vec_capacity out.old ≤ vec_capacity out.new }
+{
+    let line: [Part; 7] = [
+        Part::Text("radio "),
+        Part::Radio(itsi),
+        Part::Text(" station "),
+        Part::Number(u64::from(radio.station.number())),
+        Part::Text(" la "),
+        Part::Number(u64::from(radio.area.number())),
+        Part::Text(presence_word(radio.present)),
+    ];
+    put_parts(out, &line)
+}
+
+#[tactic(auto, using(identity::proofs::Printed::printed))]
 fn put_radio<A: Allocator>(
     out: &mut Vec<u8, A>,
     itsi: Itsi,
@@ -69,17 +93,9 @@ fn put_radio<A: Allocator>(
     ensures full { OnErr result (vec_capacity out.old < vec_len out.old + length (entry_line (RadioEntry itsi radio.now))) }
     ensures capacity { vec_capacity out.old ≤ vec_capacity out.new }
 {
-    let line: [Part; 8] = [
-        Part::Text("radio "),
-        Part::Radio(itsi),
-        Part::Text(" station "),
-        Part::Number(u64::from(radio.station.number())),
-        Part::Text(" la "),
-        Part::Number(u64::from(radio.area.number())),
-        Part::Text(presence_word(radio.present)),
-        Part::Text("\n"),
-    ];
-    put_parts(out, &line)
+    put_place(out, itsi, radio)?;
+    let end: [Part; 1] = [Part::Text("\n")];
+    put_parts(out, &end)
 }
 
 #[tactic(auto, using(identity::proofs::Printed::printed))]

@@ -2,9 +2,10 @@
 //! desks, lines of stations and disks.
 //!
 //! `specs/Entries.antt` says which entries a table has, `specs/Lines.antt` how an entry is written, and `specs/Texts.antt`
-//! what a listing is. [`Part`] is a part of such a line, and of an answer's.
+//! what a listing is; `specs/Dump.antt` has the text of a whole register. [`Part`] is a part of such a line, and of an answer's.
 #![tactic(auto)]
 
+mod dump;
 mod entry;
 mod item_parts;
 mod last;
@@ -12,6 +13,7 @@ mod listing;
 mod part;
 mod room;
 mod table;
+mod waiting;
 mod walk;
 mod words;
 

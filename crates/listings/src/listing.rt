@@ -4,6 +4,7 @@ ghost use Rattle.identity.specs.NumberText.{IsPrefixOf};
 ghost use Rattle.listings.specs.Parts.{answer_room};
 ghost use Rattle.listings.specs.Texts.{is_line, listing_text};
 
+use crate::dump::put_dump;
 use crate::last::put_last;
 use crate::room::put_room;
 use crate::table::put_table;
@@ -24,6 +25,8 @@ pub enum Table {
     Items,
     /// The waiting items whose deadline is at most the moment, in the same order.
     Due(Moment),
+    /// The waiting items whose destination is a radio that is present at the station, in the same order.
+    WaitingAt(Station),
 }
 
 /// What can be listed.
@@ -35,6 +38,8 @@ pub enum Listing {
     Last(Station),
     /// How full the register is: one line.
     Room,
+    /// The whole register: the lines of its text, after a line with their number.
+    Dump,
 }
 
 fn put_listing<A: Allocator, B: Allocator + Clone>(
@@ -52,6 +57,7 @@ fn put_listing<A: Allocator, B: Allocator + Clone>(
         Listing::Entries(table) => put_table(out, register, table),
         Listing::Last(station) => put_last(out, register, *station),
         Listing::Room => put_room(out, register),
+        Listing::Dump => put_dump(out, register),
     }
 }
 

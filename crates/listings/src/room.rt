@@ -46,7 +46,7 @@ fn fullest<B: Allocator>(mail: &Mail<B>) -> Option<(Itsi, usize)>
 }
 
 /// How many stations have an accepted command.
-fn used_stations<B: Allocator>(served: &[Option<LastAccepted<B>>]) -> usize
+pub(crate) fn used_stations<B: Allocator>(served: &[Option<LastAccepted<B>>]) -> usize
     ensures { result ≡ count_by is_some served.now }
 {
     served.iter().filter(|last| last.is_some()).count()

@@ -37,7 +37,9 @@ fn count<B: Allocator + Clone>(register: &Register<B>, table: &Table) -> u64
         Table::Rules => u64::from(register.registry().rule_count()),
         Table::Radios(None) => u64::from(register.registry().radio_count()),
         Table::Items => register.mail().len() as u64,
-        Table::Radios(Some(_)) | Table::Due(_) => count_in_turn(register, table),
+        Table::Radios(Some(_)) | Table::Due(_) | Table::WaitingAt(_) => {
+            count_in_turn(register, table)
+        }
     }
 }
 
@@ -87,6 +89,13 @@ fn put_head<A: Allocator>(out: &mut Vec<u8, A>, table: &Table, count: u64) -> Re
         Table::Due(moment) => {
             let by = Part::Number(u64::from(moment.number()));
             put_parts::<A, Global>(out, &[Part::Text("due "), by, Part::Text(" "), lines, end])
+        }
+        Table::WaitingAt(station) => {
+            let at = Part::Number(u64::from(station.number()));
+            put_parts::<A, Global>(
+                out,
+                &[Part::Text("waiting "), at, Part::Text(" "), lines, end],
+            )
         }
     }
 }

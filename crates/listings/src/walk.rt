@@ -5,14 +5,16 @@ ghost use Rattle.prefix_tree.specs.Next.{next_entry};
 ghost use Rattle.registration.specs.Listed.{under_its_bits};
 ghost use Rattle.mailbox.specs.Order.{next_item, next_due};
 ghost use Rattle.listings.specs.Entries.{ItemEntry, rule_entry, radio_entry};
-ghost use Rattle.listings.specs.Inside.Walking.{AreIdentities, entry_after, entry_of, if_under, is_past, radio_after};
+ghost use Rattle.listings.specs.declared.listing.Table.TheVariants.{WaitingAt};
+ghost use Rattle.listings.specs.Inside.Walking.{AreIdentities, entry_after, entry_of, if_under, is_past, next_waiting, radio_after};
 
 use crate::listing::Table;
+use crate::waiting::first_waiting;
 use centre_core::Register;
 use centre_core::laws::registers;
 use identity::{Itsi, Prefix};
 use mailbox::{Item, Key, Mail, Moment};
-use registration::{Radio, Registry, Rule};
+use registration::{Radio, Registry, Rule, Station};
 use std::alloc::Allocator;
 
 /// Where an entry is in its table.
@@ -160,6 +162,32 @@ fn next_due<B: Allocator>(
     Some(Entry::Item(mail.next_due(moment, after)?))
 }
 
+fn next_waiting<'r, B: Allocator + Clone>(
+    register: &'r Register<B>,
+    station: Station,
+    after: Option<(u64, Key)>,
+) -> Option<Entry<'r, B>>
+    ensures { option_map entry_of result ≡ option_map ItemEntry (next_waiting register.now station after) }
+{
+    let item = first_waiting(register.registry(), register.mail(), station, after)?;
+    Some(Entry::Item(item))
+}
+
+/// The first item that waits at the station after a place, or the first of all.
+fn waiting_after<'r, B: Allocator + Clone>(
+    register: &'r Register<B>,
+    station: Station,
+    after: &Option<Place>,
+) -> Option<Entry<'r, B>>
+    ensures { option_map entry_of result ≡ entry_after register.now (WaitingAt station) after.now }
+{
+    match after {
+        None => next_waiting(register, station, None),
+        Some(Place::Item(number, key)) => next_waiting(register, station, Some((*number, *key))),
+        Some(_) => None,
+    }
+}
+
 /// The first entry of a table after a place, or the first of all. After a place of another table it is `None`.
 pub(crate) fn entry_after<'r, B: Allocator + Clone>(
     register: &'r Register<B>,
@@ -192,5 +220,6 @@ pub(crate) fn entry_after<'r, B: Allocator + Clone>(
             }
             Some(_) => None,
         },
+        Table::WaitingAt(station) => waiting_after(register, *station, &after),
     }
 }

@@ -94,6 +94,26 @@ kept_from {A} was old new (c ∷ cs) kept layout side epoch journal ongoing =
     subst (λ (it : Option (Ongoing A)). GoesOn (with_record old (c ∷ cs)) new (ongoing_after it (c ∷ cs))) ongoing
     (goes_from (with_record was (c ∷ cs)) (with_record old (c ∷ cs)) new layout side epoch (ap (λ (place : Place). following place (c ∷ cs)) journal) (ongoing_after was.ongoing (c ∷ cs)) kept)
 
+-- what a call has kept does not tell whether the store is broken
+module _ {A D : Type 0} (new : StoreView A D) (broken : Bool) where
+  abbrev marked : StoreView A D
+  marked = record new { broken = broken }
+
+  stays_so : (old : StoreView A D) → Stays old new → Stays old marked
+  stays_so old stays = record { side = stays.side; epoch = stays.epoch; journal = stays.journal }
+
+  goes_so_by : (old : StoreView A D) (it : Ongoing A) (ends : Bool) → GoesBy old new it ends → GoesBy old marked it ends
+  goes_so_by old it false goes = (stays_so old goes.0, goes.1)
+  goes_so_by old it true goes = record { side = goes.side; epoch = goes.epoch; journal = goes.journal; none = goes.none }
+
+  goes_so : (old : StoreView A D) (ongoing : Option (Ongoing A)) → GoesOn old new ongoing → GoesOn old marked ongoing
+  goes_so old None goes = (stays_so old goes.0, if_some new.ongoing (λ it begun. record { register = begun.register; written = begun.written; journal = begun.journal; may = begun.may }) goes.1)
+  goes_so old (Some it) goes = goes_so_by old it (ends_with (old.epoch + 1) it.register it.progress.written) goes
+
+  pub kept_so : (old : StoreView A D) (cs : List (Asked A)) → HasKept old new cs → HasKept old marked cs
+  kept_so old [] kept = (stays_so old kept.0, kept.1)
+  kept_so old (c ∷ cs) kept = goes_so (with_record old (c ∷ cs)) (ongoing_after old.ongoing (c ∷ cs)) kept
+
 -- of no commands nothing is kept
 pub none_kept : {A D : Type 0} (store : StoreView A D) → HasKept store store []
 none_kept store = (record { side = refl; epoch = refl; journal = refl }, refl)

@@ -22,7 +22,11 @@ mod Replayed
 mod FromOpening
 mod Synced
 mod Ranged
-mod Lived
+pub mod Lived
+pub mod CutShort
 mod FirstDamage
+mod Remains
 mod Events
+pub mod Determined
+mod InCall
 pub mod Committed

@@ -2,3 +2,4 @@ pub mod BothHalves
 pub mod Opened
 pub mod Sides
 pub mod Filled
+pub mod Rests

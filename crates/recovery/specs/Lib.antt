@@ -6,6 +6,7 @@ pub mod Opening
 pub mod OpensTo
 pub mod Checking
 pub mod Damage
+pub mod Rests
 pub mod Calls
 pub mod FormatWith
 pub mod Stored

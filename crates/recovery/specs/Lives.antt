@@ -1,16 +1,16 @@
--- The life of a disk: it is formatted, a store is opened on it, and calls of the store follow each other. At any moment,
--- between two calls or within one, the disk may stop; it then comes back as an image that the stop left.
-use Rattle.std.specs.Prelude.{◌≡◌, ◌⊎◌, Bool, true, false, List, [], ◌∷◌, ◌++◌, Ok, Option, map, if◌then◌else◌}
+-- The life of a disk: it begins with a register on it, the base. Stores are opened on it, and calls of a store follow each
+-- other. At any moment, between two calls or within one, the disk may stop; it then comes back as an image that the stop left.
+use Rattle.std.specs.Prelude.{◌≡◌, ◌⊎◌, Bool, IsTrue, true, false, List, [], ◌∷◌, ◌++◌, Ok, Option, map, if◌then◌else◌}
 use Rattle.identity.specs.Numbers.{Byte}
-use Rattle.registration.specs.declared.limits.Limits.{Limits}
 use Rattle.sector_disk.specs.Numbers.{Sector}
 use Rattle.sector_disk.specs.Disk.{View, IsImageOf}
 use Rattle.sector_disk.specs.Run.{LeavesOnly}
 use Rattle.sector_disk.specs.declared.disk.Disk.{Ghosts}
 use Rattle.std.specs.List.{Contains}
 use Rattle.mailbox.specs.Values.{Item}
+use Rattle.mailbox.specs.Item.{is_message}
 use Rattle.centre_core.specs.Asked.{Asked}
-use Rattle.centre_core.specs.State.{State, empty}
+use Rattle.centre_core.specs.State.{IsState, State}
 use Rattle.centre_core.specs.History.{after, is_acceptance, made, next}
 use Rattle.centre_core.specs.Same.{under}
 use Rattle.centre_core.specs.Histories.{IsHistory}
@@ -41,6 +41,8 @@ pub record StoreView (A D : Type 0) : Type 0 where
   pub register : State
   pub broken : Bool
   pub disk : D
+  -- the disk as it was when the store was opened
+  pub found : D
 
 -- a disk on which no store is open, or a store with its disk
 pub data Phase (A D : Type 0) : Type 0 where
@@ -63,19 +65,25 @@ view_of store = record {
   register = store.register;
   broken = store.broken;
   disk = store.disk;
+  found = store.found.value;
 }
+
+-- the disk was honest when the store was opened, and is
+abbrev pub HasBeenHonest : {A D : Type 0} → (D → View) → StoreView A D → Type 0
+HasBeenHonest view store = (view store.found).honest × (view store.disk).honest
 
 -- what is the same before and after a call
 module _ {A D : Type 0} {g : Ghosts D} (old new : Store A D g) where
   -- the register, and the one from before the call
   abbrev pub HasSameRegister : Type 0
-  HasSameRegister = (new.layout ≡ old.layout) × (new.register ≡ old.register) × (new.before ≡ old.before)
+  HasSameRegister =
+      (new.layout ≡ old.layout) × (new.register ≡ old.register) × (new.before ≡ old.before) × (new.found.value ≡ old.found.value)
 
   -- all but the journals, the disk, and whether it is broken
   abbrev pub HasSameButJournals : Type 0
   HasSameButJournals =
       (new.layout ≡ old.layout) × (new.side ≡ old.side) × (new.epoch ≡ old.epoch)
-      × (new.register ≡ old.register) × (new.before ≡ old.before)
+      × (new.register ≡ old.register) × (new.before ≡ old.before) × (new.found.value ≡ old.found.value)
 
 -- ---- calls
 
@@ -138,6 +146,7 @@ module _ {D : Type 0} (A : Type 0) (view : D → View) where
     pub honest : (view new.disk).honest
     pub opened : opens A (view old).reads ≡ Ok (opening new.layout new.side new.epoch new.journal.next new.register)
     pub kept : IsStoredIn new
+    pub found : new.found ≡ old
     pub left : LeavesOnly (view old) (view new.disk) (IsImageOf (view old))
 
   -- an opening fails, and returns the disk
@@ -190,35 +199,41 @@ module _ {D : Type 0} (A : Type 0) (view : D → View) where
     pub reads : (view disk).reads ≡ image
     pub durable : (k : Sector) → (view disk).pending k ≡ false
 
-  -- The events of a life so far, the last one first, and where the disk is. It begins with a disk made ready for an empty
-  -- register. Then each event is a call, or a call in which a stop comes: it leaves an image of some moment of the call.
-  pub data IsLife (limits : Limits) : List (Event A) → Phase A D → Type 0 where
-    begins : (disk : D) → (view disk).honest → InEach (view disk) (OpensTo A (empty limits)) → IsLife limits [] (Closed disk)
+  -- The events of a life so far, the last one first, and where the disk is. It begins with an honest disk that opens to the base after
+  -- each stop. Then each event is a call, or a call in which a stop comes. The stop leaves an image of some moment of the call
+  -- (`stops`). Among several calls the image may be known by what it opens to: the register before or after one of them (`stops_in`).
+  pub data IsLife (base : State) : List (Event A) → Phase A D → Type 0 where
+    begins : (disk : D) → (view disk).honest → InEach (view disk) (OpensTo A base) → IsLife base [] (Closed disk)
     goes_on : (events : List (Event A)) (old new : Phase A D) (event : Event A)
-        → IsLife limits events old → IsCall old event new → IsLife limits (event ∷ events) new
+        → IsLife base events old → IsCall old event new → IsLife base (event ∷ events) new
     stops : (events : List (Event A)) (old new : Phase A D) (event : Event A) (image : List (List Byte)) (disk : D)
-        → IsLife limits events old → IsCall old event new
-        → (view (disk_of new)).since (view (disk_of old)).moment image → ComesBack image disk → IsLife limits (stopped event ∷ events) (Closed disk)
+        → IsLife base events old → IsCall old event new
+        → (view (disk_of new)).since (view (disk_of old)).moment image → ComesBack image disk → IsLife base (stopped event ∷ events) (Closed disk)
+    stops_in : (events : List (Event A)) (old new : StoreView A D) (accepted : List (Asked A)) (image : List (List Byte)) (disk : D)
+        → IsLife base events (Open old) → HasAccepted old new accepted → old.broken ≡ false
+        → OpensToEither A old.register new.register image → ComesBack image disk → IsLife base (Unanswered accepted ∷ events) (Closed disk)
 
 -- ---- what lasts
 
-module _ (A : Type 0) (limits : Limits) where
-  -- each message that one of these commands makes is missing in the image exactly if a later one of them ends it
-  abbrev pub LosesNoMessage : List (Asked A) → List (List Byte) → Type 0
-  LosesNoMessage kept image =
-      (bs : List (Asked A)) (c : Asked A) (cs : List (Asked A)) (m : Item) → kept ≡ bs ++ c ∷ cs
-      → Contains (made (after (empty limits) bs) c) m → LacksWhereEnded A image m (next (after (empty limits) bs) c) cs
+module _ (A : Type 0) (base : State) where
+  -- each message that waits in the base, or that one of these commands makes, is missing in the image exactly if a later one of them ends it
+  pub record LosesNoMessage (kept : List (Asked A)) (image : List (List Byte)) : Type 0 where
+    pub from_base : (m : Item) → IsTrue (is_message m) → Contains base.mail.items m → LacksWhereEnded A image m base kept
+    pub from_commands : (bs : List (Asked A)) (c : Asked A) (cs : List (Asked A)) (m : Item) → kept ≡ bs ++ c ∷ cs
+        → Contains (made (after base bs) c) m → LacksWhereEnded A image m (next (after base bs) c) cs
 
-  -- The image opens to the register after the kept commands of these events, each accepted in its turn.
+  -- The image opens to the register that the kept commands of these events made of the base, each accepted in its turn.
   pub record Lasts (events : List (Event A)) (image : List (List Byte)) : Type 0 where
+    pub state : IsState base
     pub kept : List (Asked A)
     pub are : AreKept events kept
-    pub history : IsHistory (empty limits) kept
-    pub reopens : OpensTo A (after (empty limits) kept) image
+    pub history : IsHistory base kept
+    pub reopens : OpensTo A (after base kept) image
 
   -- the register of a store is so too
   pub record LastsInStore {D : Type 0} (events : List (Event A)) (store : StoreView A D) : Type 0 where
+    pub state : IsState base
     pub kept : List (Asked A)
     pub are : AreKept events kept
-    pub history : IsHistory (empty limits) kept
-    pub made : store.register ≡ after (empty limits) kept
+    pub history : IsHistory base kept
+    pub made : store.register ≡ after base kept

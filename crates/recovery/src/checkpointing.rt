@@ -72,7 +72,7 @@ impl<A: Allocator + Clone, D: Disk> Store<A, D> {
         ensures kept { OnOk result (StaysKept A D.view (view_of self.old) (view_of self.new)) }
         ensures sides { OnOk result ((self.new.side ≡ other_of self.old.side) × (self.new.epoch ≡ self.old.epoch + 1) × (self.new.ongoing ≡ None)) }
         ensures no_record { OnOk result (self.new.journal ≡ fresh_place self.old.layout (other_of self.old.side) self.old.register.count) }
-        ensures same { (self.new.layout ≡ self.old.layout) × (self.new.register ≡ self.old.register) }
+        ensures same { (self.new.layout ≡ self.old.layout) × (self.new.register ≡ self.old.register) × (self.new.found.value ≡ self.old.found.value) }
         ensures unmoved { OnErr result ((self.new.side ≡ self.old.side) × (self.new.epoch ≡ self.old.epoch) × (self.new.journal ≡ self.old.journal)) }
 
         // The other side's root is read, and closed if it reads as open. Its first gate is closed. Then each row is written

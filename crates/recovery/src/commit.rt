@@ -51,6 +51,7 @@ impl<A: Allocator + Copy, D: Disk> Store<A, D> {
         ensures at_once { commands.now ≡ [] → self.old.broken ≡ false → IsOk result }
         ensures idle { taken self.old.register (asked commands.now) ≡ [] → self.new.disk ≡ self.old.disk }
         ensures layout { self.new.layout ≡ self.old.layout }
+        ensures found { self.new.found.value ≡ self.old.found.value }
         ensures broken { self.old.broken ≡ true → result ≡ Err Broken }
         ensures only_broken { IsErrOf result Broken → (self.old.broken ≡ true) × (self.new ≡ self.old) }
         ensures memory { IsErrOf result NoMemory → self.new ≡ self.old }
@@ -83,7 +84,9 @@ impl<A: Allocator + Copy, D: Disk> Store<A, D> {
             &mut outcomes,
             &mut accepted,
         );
+        self.broken = true;
         self.keep(&accepted)?;
+        self.broken = false;
         Ok(outcomes)
     }
 }

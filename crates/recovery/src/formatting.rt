@@ -102,8 +102,8 @@ pub fn format<A: Allocator, D: Disk>(disk: &mut D, layout: &Layout) -> Result<()
     ensures later { (D.view disk.old).failures ≤ (D.view disk.new).failures }
     ensures honest { (D.view disk.old).honest → (D.view disk.new).honest }
 
-    // The life of the disk begins.
-    ensures begins { OnOk result ((D.view disk.old).honest → IsLife A D.view layout.now.limits [] (Closed disk.new)) }
+    // The life of the disk begins with the empty register.
+    ensures begins { OnOk result ((D.view disk.old).honest → IsLife A D.view (empty layout.now.limits) [] (Closed disk.new)) }
 {
     if disk.sectors() < layout.sectors() {
         return Err(StoreFault::BadGeometry);

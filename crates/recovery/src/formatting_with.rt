@@ -1,5 +1,5 @@
 //! A disk formatted for a register that is already there.
-ghost use Rattle.std.specs.Prelude.{◌≡◌, ◌≤◌, ◌<◌, Err, IfErr, IsErr, IsErrOf, Ok, OnOk};
+ghost use Rattle.std.specs.Prelude.{◌≡◌, ◌≤◌, ◌<◌, [], Err, IfErr, IsErr, IsErrOf, Ok, OnOk};
 ghost use Rattle.sector_disk.specs.Disk.{HasFailed};
 ghost use Rattle.sector_disk.specs.Run.{HasCalled, HasMade};
 ghost use Rattle.sector_disk.specs.declared.disk.DiskError.TheVariants.{OutOfRange};
@@ -11,6 +11,7 @@ ghost use Rattle.recovery.specs.declared.fault.StoreFault.TheVariants.{BadGeomet
 ghost use Rattle.recovery.specs.FormatWith.{filled_calls, format_with_calls};
 ghost use Rattle.recovery.specs.Opens.{opening, opens};
 ghost use Rattle.recovery.specs.Inside.Filled.{AreFilled};
+ghost use Rattle.recovery.specs.Lives.{Closed, IsLife};
 
 use crate::StoreFault;
 use crate::formatting::{label_sector, write_sides};
@@ -73,6 +74,9 @@ pub fn format_with<A: Allocator + Clone, D: Disk>(
     ensures sectors { (D.view disk.new).sectors ≡ (D.view disk.old).sectors }
     ensures later { (D.view disk.old).failures ≤ (D.view disk.new).failures }
     ensures honest { (D.view disk.old).honest → (D.view disk.new).honest }
+
+    // The life of the disk begins with the register.
+    ensures begins { OnOk result ((D.view disk.old).honest → IsLife A D.view register.now [] (Closed disk.new)) }
 {
     if disk.sectors() < layout.sectors() {
         return Err(StoreFault::BadGeometry);

@@ -104,7 +104,9 @@ fn append_ongoing<A: Allocator, B: Allocator, D: Disk>(
 
 impl<A: Allocator + Copy, D: Disk> Store<A, D> {
     // Adds a record of these commands, at least one, to the journal. No checkpoint is under way.
+    #[tactic(auto, using(crate::proofs::InCall::in_call))]
     fn append_one<B: Allocator>(&mut self, accepted: &[&Command<B>]) -> Result<(), StoreFault>
+        requires in_call { self.old.broken ≡ true }
         requires idle { self.old.ongoing ≡ None }
         requires some { 1 ≤ length accepted.now }
         requires few { length accepted.now ≤ most_commands }
@@ -120,8 +122,8 @@ impl<A: Allocator + Copy, D: Disk> Store<A, D> {
             (record_calls self.old.journal self.old.ongoing (given A accepted.now)) }
         ensures root { (D.view self.old.disk).honest → OnOk result (KeepsOtherRoot A D.view (view_of self.old) (view_of self.new)) }
         ensures same { HasSameButJournals self.old self.new }
-        ensures fault { IfErr result (λ fault. (fault ≡ DiskFault) × HasFailed (D.view self.old.disk) (D.view self.new.disk) × (self.new.broken ≡ true)) }
-        ensures sound { OnOk result (self.new.broken ≡ self.old.broken) }
+        ensures fault { IfErr result (λ fault. (fault ≡ DiskFault) × HasFailed (D.view self.old.disk) (D.view self.new.disk)) }
+        ensures in_call { self.new.broken ≡ true }
         ensures later { (D.view self.old.disk).failures ≤ (D.view self.new.disk).failures }
         ensures honest { (D.view self.old.disk).honest → (D.view self.new.disk).honest }
     {
@@ -135,7 +137,9 @@ impl<A: Allocator + Copy, D: Disk> Store<A, D> {
 
     // Adds a record of these commands, at least one, to the journals of both halves, in the same two syncs. A checkpoint
     // is under way.
+    #[tactic(auto, using(crate::proofs::InCall::in_call))]
     fn append_two<B: Allocator>(&mut self, accepted: &[&Command<B>]) -> Result<(), StoreFault>
+        requires in_call { self.old.broken ≡ true }
         requires under_way { is_some self.old.ongoing ≡ true }
         requires some { 1 ≤ length accepted.now }
         requires few { length accepted.now ≤ most_commands }
@@ -152,8 +156,8 @@ impl<A: Allocator + Copy, D: Disk> Store<A, D> {
             (record_calls self.old.journal self.old.ongoing (given A accepted.now)) }
         ensures root { (D.view self.old.disk).honest → OnOk result (KeepsOtherRoot A D.view (view_of self.old) (view_of self.new)) }
         ensures same { HasSameButJournals self.old self.new }
-        ensures fault { IfErr result (λ fault. (fault ≡ DiskFault) × HasFailed (D.view self.old.disk) (D.view self.new.disk) × (self.new.broken ≡ true)) }
-        ensures sound { OnOk result (self.new.broken ≡ self.old.broken) }
+        ensures fault { IfErr result (λ fault. (fault ≡ DiskFault) × HasFailed (D.view self.old.disk) (D.view self.new.disk)) }
+        ensures in_call { self.new.broken ≡ true }
         ensures later { (D.view self.old.disk).failures ≤ (D.view self.new.disk).failures }
         ensures honest { (D.view self.old.disk).honest → (D.view self.new.disk).honest }
     {
@@ -174,6 +178,7 @@ impl<A: Allocator + Copy, D: Disk> Store<A, D> {
     // Adds a record of these commands, at least one, to the journal, and to the other half's journal if a checkpoint is
     // under way. The register has applied and counted them already.
     fn add_record<B: Allocator>(&mut self, accepted: &[&Command<B>]) -> Result<(), StoreFault>
+        requires in_call { self.old.broken ≡ true }
         requires some { 1 ≤ length accepted.now }
         requires few { length accepted.now ≤ most_commands }
         requires fits { data_size (text_at A self.old.journal accepted.now) ≤ room_of self.old.journal }
@@ -189,8 +194,8 @@ impl<A: Allocator + Copy, D: Disk> Store<A, D> {
             (record_calls self.old.journal self.old.ongoing (given A accepted.now)) }
         ensures root { (D.view self.old.disk).honest → OnOk result (KeepsOtherRoot A D.view (view_of self.old) (view_of self.new)) }
         ensures same { HasSameButJournals self.old self.new }
-        ensures fault { IfErr result (λ fault. (fault ≡ DiskFault) × HasFailed (D.view self.old.disk) (D.view self.new.disk) × (self.new.broken ≡ true)) }
-        ensures sound { OnOk result (self.new.broken ≡ self.old.broken) }
+        ensures fault { IfErr result (λ fault. (fault ≡ DiskFault) × HasFailed (D.view self.old.disk) (D.view self.new.disk)) }
+        ensures in_call { self.new.broken ≡ true }
         ensures later { (D.view self.old.disk).failures ≤ (D.view self.new.disk).failures }
         ensures honest { (D.view self.old.disk).honest → (D.view self.new.disk).honest }
     {
@@ -203,6 +208,7 @@ impl<A: Allocator + Copy, D: Disk> Store<A, D> {
     // Adds a record of these commands and continues the checkpoint. Without commands nothing is done. The register has
     // applied and counted them already.
     pub(crate) fn keep<B: Allocator>(&mut self, accepted: &[&Command<B>]) -> Result<(), StoreFault>
+        requires in_call { self.old.broken ≡ true }
         requires few { length accepted.now ≤ most_commands }
         requires fits { data_size (text_at A self.old.journal accepted.now) ≤ room_of self.old.journal }
         requires counted { self.old.journal.count + length accepted.now ≤ self.old.register.count }
@@ -219,8 +225,8 @@ impl<A: Allocator + Copy, D: Disk> Store<A, D> {
         ensures calls_on_any_disk { OnOk result (KeepCallsOnAnyDisk A D.view (view_of self.old) (view_of self.new) (given A accepted.now)) }
         ensures some_calls_on_any_disk { SomeKeepCallsOnAnyDisk A D.view (view_of self.old) (view_of self.new) (given A accepted.now) }
         ensures same { HasSameRegister self.old self.new }
-        ensures fault { IfErr result (λ fault. (fault ≡ DiskFault) × HasFailed (D.view self.old.disk) (D.view self.new.disk) × (self.new.broken ≡ true)) }
-        ensures sound { OnOk result (self.new.broken ≡ self.old.broken) }
+        ensures fault { IfErr result (λ fault. (fault ≡ DiskFault) × HasFailed (D.view self.old.disk) (D.view self.new.disk)) }
+        ensures in_call { self.new.broken ≡ true }
         ensures later { (D.view self.old.disk).failures ≤ (D.view self.new.disk).failures }
         ensures honest { (D.view self.old.disk).honest → (D.view self.new.disk).honest }
     {

@@ -1,27 +1,49 @@
 //! What holds over the whole life of a disk.
 
-ghost use Rattle.std.specs.Prelude.{◌≡◌, ◌∷◌, ℕ, [], List, false};
-ghost use Rattle.registration.specs.declared.limits.Limits.{Limits};
+ghost use Rattle.std.specs.Prelude.{◌≡◌, ◌∷◌, ℕ, [], List, Ok, false};
 ghost use Rattle.sector_disk.specs.Memory.{memory_view};
+ghost use Rattle.centre_core.specs.State.{State};
 ghost use Rattle.checkpoint.specs.OnSide.{InEach};
-ghost use Rattle.recovery.specs.Lives.{Closed, Event, LastsInStore, IsLife, Lasts, LosesNoMessage, Open, Phase, StoreView, Unanswered, disk_of};
+ghost use Rattle.recovery.specs.Opens.{Opening, opens};
+ghost use Rattle.recovery.specs.OpensTo.{OpensTo};
+ghost use Rattle.recovery.specs.Lives.{Closed, Event, HasBeenHonest, IsLife, IsStoredIn, Lasts, LastsInStore, LosesNoMessage, Open, Phase, StoreView, Unanswered, disk_of, view_of};
 
+use crate::Store;
 use sector_disk::{Disk, MemoryDisk};
 use std::alloc::Allocator;
 
+/// The life of an honest disk begins with any register to which it opens after each stop. So it may begin with a disk that
+/// any program has written, of either form of records: if nothing is pending, with what the disk opens to.
+///
+/// This function does nothing: calling it gives its clauses.
+pub fn begins<A: Allocator, D: Disk>()
+    ensures each { (base : State) (disk : D) → (D.view disk).honest → InEach (D.view disk) (OpensTo A base)
+        → IsLife A D.view base [] (Closed disk) }
+    ensures durable { (opening : Opening) (disk : D) → (D.view disk).honest → ((k : ℕ) → (D.view disk).pending k ≡ false)
+        → opens A (D.view disk).reads ≡ Ok opening → IsLife A D.view opening.state [] (Closed disk) }
+{}
+
 /// Over the whole life of a disk, through any calls and any stops between them and within them: each image that a stop may
-/// leave opens to what accepted commands made of an empty register, to all of each call that was answered and to all or
-/// none of each other call. So does the register of a store that is not broken. A message that one of these commands made
-/// is missing exactly where a later one of them ended it.
+/// leave opens to what accepted commands made of the base, to all of each call that was answered and to all or none of each
+/// other call. So does the register of a store that is not broken, and it is on the disk. A message that waited in the base, or that one of these
+/// commands made, is missing exactly where a later one of them ended it.
 ///
 /// This function does nothing: calling it gives its clauses.
 pub fn lasts<A: Allocator, D: Disk>()
-    ensures on_disk { (limits : Limits) (events : List (Event A)) (now : Phase A D) → IsLife A D.view limits events now
-        → InEach (D.view (disk_of now)) (Lasts A limits events) }
-    ensures in_store { (limits : Limits) (events : List (Event A)) (store : StoreView A D) → IsLife A D.view limits events (Open store)
-        → store.broken ≡ false → LastsInStore A limits events store }
-    ensures messages { (limits : Limits) (events : List (Event A)) (image : List (List ℕ)) (lasts : Lasts A limits events image)
-        → LosesNoMessage A limits lasts.kept image }
+    ensures on_disk { (base : State) (events : List (Event A)) (now : Phase A D) → IsLife A D.view base events now
+        → InEach (D.view (disk_of now)) (Lasts A base events) }
+    ensures in_store { (base : State) (events : List (Event A)) (store : StoreView A D) → IsLife A D.view base events (Open store)
+        → store.broken ≡ false → IsStoredIn A D.view store × LastsInStore A base events store }
+    ensures messages { (base : State) (events : List (Event A)) (image : List (List ℕ)) (lasts : Lasts A base events image)
+        → LosesNoMessage A base lasts.kept image }
+{}
+
+/// The register of each store is on its disk, if the store is not broken, and the disk is honest and was so when the store
+/// was opened.
+///
+/// This function does nothing: calling it gives its clause.
+pub fn stores<A: Allocator, D: Disk>(_store: &Store<A, D>)
+    ensures { _store.now.broken ≡ false → HasBeenHonest D.view (view_of _store.now) → IsStoredIn A D.view (view_of _store.now) }
 {}
 
 /// `MemoryDisk::crash` is such a stop.
@@ -29,8 +51,8 @@ pub fn crash<A: Allocator, M: Allocator>(
     disk: MemoryDisk<M>,
     fill: &[(u64, [u8; 512])],
 ) -> MemoryDisk<M>
-    ensures { (limits : Limits) (events : List (Event A)) → IsLife A memory_view limits events (Closed disk)
-        → IsLife A memory_view limits (Unanswered [] ∷ events) (Closed result) }
+    ensures { (base : State) (events : List (Event A)) → IsLife A memory_view base events (Closed disk)
+        → IsLife A memory_view base (Unanswered [] ∷ events) (Closed result) }
 {
     disk.crash(fill)
 }

@@ -68,7 +68,9 @@ impl<A: Allocator + Copy, D: Disk> Store<A, D> {
 
     // Begins a checkpoint of the register as it is, if one may begin. None is under way. Without memory for it nothing is
     // done.
+    #[tactic(auto, using(crate::proofs::InCall::in_call))]
     fn begin_checkpoint(&mut self) -> Result<(), StoreFault>
+        requires in_call { self.old.broken ≡ true }
         requires idle { self.old.ongoing ≡ None }
         ensures any_moment { StopsLeave A D.view (view_of self.old) (view_of self.new) (OpensTo A self.old.register) }
         ensures kept { OnOk result (StaysKept A D.view (view_of self.old) (view_of self.new)) }
@@ -79,8 +81,8 @@ impl<A: Allocator + Copy, D: Disk> Store<A, D> {
         ensures calls_on_any_disk { OnOk result (OngoingCallsOnAnyDisk A D.view (view_of self.old) (view_of self.new) None) }
         ensures some_calls_on_any_disk { SomeOngoingCallsOnAnyDisk A D.view (view_of self.old) (view_of self.new) None }
         ensures same { HasSameRegister self.old self.new }
-        ensures fault { IfErr result (λ fault. (fault ≡ DiskFault) × HasFailed (D.view self.old.disk) (D.view self.new.disk) × (self.new.broken ≡ true)) }
-        ensures sound { OnOk result (self.new.broken ≡ self.old.broken) }
+        ensures fault { IfErr result (λ fault. (fault ≡ DiskFault) × HasFailed (D.view self.old.disk) (D.view self.new.disk)) }
+        ensures in_call { self.new.broken ≡ true }
         ensures later { (D.view self.old.disk).failures ≤ (D.view self.new.disk).failures }
         ensures honest { (D.view self.old.disk).honest → (D.view self.new.disk).honest }
     {
@@ -100,7 +102,6 @@ impl<A: Allocator + Copy, D: Disk> Store<A, D> {
         if begin::<A, D>(&mut self.disk, &self.layout, self.side).is_err() {
             drop(journal);
             drop(register);
-            self.broken = true;
             return Err(StoreFault::DiskFault);
         }
         let progress = Progress::begun(self.epoch + 1, &register);
@@ -115,7 +116,9 @@ impl<A: Allocator + Copy, D: Disk> Store<A, D> {
     }
 
     // Writes the next rows of the checkpoint under way.
+    #[tactic(auto, using(crate::proofs::InCall::in_call))]
     fn write_rows(&mut self) -> Result<(), StoreFault>
+        requires in_call { self.old.broken ≡ true }
         ensures any_moment { StopsLeave A D.view (view_of self.old) (view_of self.new) (OpensTo A self.old.register) }
         ensures kept { OnOk result (StaysKept A D.view (view_of self.old) (view_of self.new)) }
         ensures stays { Stays (view_of self.old) (view_of self.new) }
@@ -125,8 +128,8 @@ impl<A: Allocator + Copy, D: Disk> Store<A, D> {
         ensures some_calls { IfSome self.old.ongoing (λ was.
             HasMade (D.view self.old.disk) (D.view self.new.disk) (rows_calls self.old.layout self.old.side self.old.epoch was)) }
         ensures same { HasSameRegister self.old self.new }
-        ensures fault { IfErr result (λ fault. (fault ≡ DiskFault) × HasFailed (D.view self.old.disk) (D.view self.new.disk) × (self.new.broken ≡ true)) }
-        ensures sound { OnOk result (self.new.broken ≡ self.old.broken) }
+        ensures fault { IfErr result (λ fault. (fault ≡ DiskFault) × HasFailed (D.view self.old.disk) (D.view self.new.disk)) }
+        ensures in_call { self.new.broken ≡ true }
         ensures later { (D.view self.old.disk).failures ≤ (D.view self.new.disk).failures }
         ensures honest { (D.view self.old.disk).honest → (D.view self.new.disk).honest }
     {
@@ -142,7 +145,6 @@ impl<A: Allocator + Copy, D: Disk> Store<A, D> {
             &mut ongoing.progress,
         );
         if written.is_err() {
-            self.broken = true;
             return Err(StoreFault::DiskFault);
         }
         Ok(())
@@ -159,7 +161,9 @@ impl<A: Allocator + Copy, D: Disk> Store<A, D> {
     }
 
     // Switches to the other side. All rows are written.
+    #[tactic(auto, using(crate::proofs::InCall::in_call))]
     fn end_checkpoint(&mut self) -> Result<(), StoreFault>
+        requires in_call { self.old.broken ≡ true }
         requires whole { IfSome self.old.ongoing (λ it. it.progress.written ≡ length (rows_of (self.old.epoch + 1) it.register)) }
         ensures any_moment { StopsLeave A D.view (view_of self.old) (view_of self.new) (OpensTo A self.old.register) }
         ensures kept { OnOk result (StaysKept A D.view (view_of self.old) (view_of self.new)) }
@@ -168,8 +172,8 @@ impl<A: Allocator + Copy, D: Disk> Store<A, D> {
             HasCalled (D.view self.old.disk) (D.view self.new.disk) (end_calls self.old.layout self.old.side self.old.epoch true))) }
         ensures some_calls { HasMade (D.view self.old.disk) (D.view self.new.disk) (end_calls self.old.layout self.old.side self.old.epoch true) }
         ensures same { HasSameRegister self.old self.new }
-        ensures fault { IfErr result (λ fault. (fault ≡ DiskFault) × HasFailed (D.view self.old.disk) (D.view self.new.disk) × (self.new.broken ≡ true)) }
-        ensures sound { OnOk result (self.new.broken ≡ self.old.broken) }
+        ensures fault { IfErr result (λ fault. (fault ≡ DiskFault) × HasFailed (D.view self.old.disk) (D.view self.new.disk)) }
+        ensures in_call { self.new.broken ≡ true }
         ensures later { (D.view self.old.disk).failures ≤ (D.view self.new.disk).failures }
         ensures honest { (D.view self.old.disk).honest → (D.view self.new.disk).honest }
     {
@@ -191,7 +195,6 @@ impl<A: Allocator + Copy, D: Disk> Store<A, D> {
         drop(register);
         if ended.is_err() {
             drop(journal);
-            self.broken = true;
             return Err(StoreFault::DiskFault);
         }
         self.side = self.side.other();
@@ -203,6 +206,7 @@ impl<A: Allocator + Copy, D: Disk> Store<A, D> {
     // After a record: the checkpoint that is under way continues, and after its last row its side counts. If none is
     // under way, one may begin.
     pub(crate) fn advance_checkpoint(&mut self) -> Result<(), StoreFault>
+        requires in_call { self.old.broken ≡ true }
         ensures any_moment { StopsLeave A D.view (view_of self.old) (view_of self.new) (OpensTo A self.old.register) }
         ensures kept { OnOk result (StaysKept A D.view (view_of self.old) (view_of self.new)) }
         ensures goes { OnOk result (GoesOn (view_of self.old) (view_of self.new) self.old.ongoing) }
@@ -211,8 +215,8 @@ impl<A: Allocator + Copy, D: Disk> Store<A, D> {
         ensures calls_on_any_disk { OnOk result (OngoingCallsOnAnyDisk A D.view (view_of self.old) (view_of self.new) self.old.ongoing) }
         ensures some_calls_on_any_disk { SomeOngoingCallsOnAnyDisk A D.view (view_of self.old) (view_of self.new) self.old.ongoing }
         ensures same { HasSameRegister self.old self.new }
-        ensures fault { IfErr result (λ fault. (fault ≡ DiskFault) × HasFailed (D.view self.old.disk) (D.view self.new.disk) × (self.new.broken ≡ true)) }
-        ensures sound { OnOk result (self.new.broken ≡ self.old.broken) }
+        ensures fault { IfErr result (λ fault. (fault ≡ DiskFault) × HasFailed (D.view self.old.disk) (D.view self.new.disk)) }
+        ensures in_call { self.new.broken ≡ true }
         ensures later { (D.view self.old.disk).failures ≤ (D.view self.new.disk).failures }
         ensures honest { (D.view self.old.disk).honest → (D.view self.new.disk).honest }
     {

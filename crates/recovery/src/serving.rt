@@ -49,6 +49,7 @@ impl<A: Allocator + Copy, B: Allocator + Copy, D: Disk> Desk<A> for Store<B, D> 
         // A checkpoint is made first only if a record of the command would not fit. The other calls of the disk are those of a
         // commit of this one command. A call that fails is the last.
         ensures layout { self.new.layout ≡ self.old.layout }
+        ensures found { self.new.found.value ≡ self.old.found.value }
         ensures calls { OnOk result (DeskCalls B D.view (view_of self.old) (view_of self.new)
             (fits_in B self.old.journal (command.entry ∷ [])) (command.now ∷ [])) }
         ensures some_calls { SomeDeskCalls B D.view (view_of self.old) (view_of self.new)

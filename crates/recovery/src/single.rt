@@ -52,7 +52,7 @@ impl<A: Allocator + Copy, D: Disk> Store<A, D> {
         ensures calls_on_any_disk { OnOk result (RoomCallsOnAnyDisk A D.view (view_of self.old) (view_of self.new) (fits_in A self.old.journal commands.now)) }
         ensures some_calls_on_any_disk { SomeRoomCallsOnAnyDisk A D.view (view_of self.old) (view_of self.new) (fits_in A self.old.journal commands.now) }
         ensures place { OnOk result (HasRoom (view_of self.old) (view_of self.new) (fits_in A self.old.journal commands.now)) }
-        ensures same { (self.new.layout ≡ self.old.layout) × (self.new.register ≡ self.old.register) }
+        ensures same { (self.new.layout ≡ self.old.layout) × (self.new.register ≡ self.old.register) × (self.new.found.value ≡ self.old.found.value) }
         ensures unmoved { OnErr result ((self.new.side ≡ self.old.side) × (self.new.epoch ≡ self.old.epoch) × (self.new.journal ≡ self.old.journal)) }
         ensures only_broken { IsErrOf result Broken → (self.old.broken ≡ true) × (self.new ≡ self.old) }
         ensures memory { IsErrOf result NoMemory → ⊥ }
@@ -83,6 +83,7 @@ impl<A: Allocator + Copy, D: Disk> Store<A, D> {
         ensures any_moment { StopsLeave A D.view (view_of self.old) (view_of self.new) (OpensToEither A self.old.register self.new.register) }
         ensures kept { self.new.broken ≡ false → StaysKept A D.view (view_of self.old) (view_of self.new) }
         ensures layout { self.new.layout ≡ self.old.layout }
+        ensures found { self.new.found.value ≡ self.old.found.value }
         ensures calls { OnOk result (DeskCalls A D.view (view_of self.old) (view_of self.new)
             (fits_in A self.old.journal (command.entry ∷ [])) (command.now ∷ [])) }
         ensures some_calls { SomeDeskCalls A D.view (view_of self.old) (view_of self.new)
@@ -111,8 +112,13 @@ impl<A: Allocator + Copy, D: Disk> Store<A, D> {
         let commands = [command];
         self.make_room(&commands)?;
         self.before = Before::of(&self.register);
-        let reply = self.register.apply(alloc, command)?;
+        self.broken = true;
+        let Ok(reply) = self.register.apply(alloc, command) else {
+            self.broken = false;
+            return Err(StoreFault::NoMemory);
+        };
         self.keep(if_accepted(&reply, &commands))?;
+        self.broken = false;
         Ok(reply)
     }
 }

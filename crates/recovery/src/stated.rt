@@ -26,7 +26,7 @@ use std::alloc::Allocator;
 #[derive(Clone, Copy, Drop)]
 pub(crate) struct Stated {
     pub(crate) header: Header,
-    form: Form,
+    pub(crate) form: Form,
 }
 
 // The header of a side.

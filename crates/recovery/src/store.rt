@@ -7,7 +7,7 @@ ghost use Rattle.sector_disk.specs.declared.record.Call.TheVariants.{Sync};
 ghost use Rattle.checkpoint.specs.Layout.{disk_size, half_at, half_end};
 ghost use Rattle.checkpoint.specs.OnSide.{InEach};
 ghost use Rattle.recovery.specs.declared.fault.StoreFault.TheVariants.{Damaged, DiskFault, NoMemory};
-ghost use Rattle.recovery.specs.UnderWay.{BelongsTo};
+ghost use Rattle.recovery.specs.UnderWay.{BelongsTo, IsKept};
 ghost use Rattle.std.proofs.Props.{props};
 ghost use Rattle.recovery.specs.Opens.{opening, opens};
 ghost use Rattle.recovery.specs.Opening.{Fails, HasNoFaultYet, IsOfOpening};
@@ -35,6 +35,9 @@ pub struct Store<A: Allocator, D: Disk> {
     pub(crate) register: Register<A>,
     // The register as it was when the current call began. A store that this call breaks shows it.
     pub(crate) before: Before<Register<A>>,
+    // The disk as it was when the store was opened.
+    pub(crate) found: Before<D>,
+    // The device has failed. So it is called in a call too, until that has kept on the disk what it did.
     pub(crate) broken: bool,
     ghost room: { disk_size layout ≤ (D.view disk).sectors },
     ghost limits: { register.registered.limits ≡ layout.limits },
@@ -43,6 +46,10 @@ pub struct Store<A: Allocator, D: Disk> {
     ghost next: { journal.next < half_end layout side },
     ghost counts: { journal.count ≤ register.count },
     ghost other: { IfSome ongoing (λ it. BelongsTo layout side epoch journal register.count it) } by { Prim.hlevel props },
+    // If the disk was honest when the store was opened, it is so, and the register is on it. A ghost field has one proof at
+    // most, so this is truncated: `lives::stores` gives it as it is.
+    ghost stored: { ∥ (broken ≡ false → (D.view found.value).honest
+        → (D.view disk).honest × IsKept A layout side epoch journal ongoing register (D.view disk)) ∥₁ },
 }
 
 impl<A: Allocator + Copy, D: Disk> Store<A, D> {
@@ -62,6 +69,7 @@ impl<A: Allocator + Copy, D: Disk> Store<A, D> {
         ensures kept { IfOk result (λ store. (D.view disk).honest → IsStoredIn A D.view (view_of store)) }
         ensures sound { IfOk result (λ store. store.broken ≡ false) }
         ensures idle { IfOk result (λ store. store.ongoing ≡ None) }
+        ensures found { IfOk result (λ store. store.found.value ≡ disk) }
         ensures only { IfOk result (λ store. (D.view disk).honest → InEach (D.view store.disk) (λ image. image ≡ (D.view disk).reads)) }
         ensures left { IfOk result (λ store. (D.view disk).honest → LeavesOnly (D.view disk) (D.view store.disk) (IsImageOf (D.view disk))) }
         ensures left_by { IfErr result (λ e. (D.view disk).honest → LeavesOnly (D.view disk) (D.view e.1) (IsImageOf (D.view disk))) }
@@ -88,6 +96,7 @@ impl<A: Allocator + Copy, D: Disk> Store<A, D> {
         ensures call_by { IfErr result (λ e. (D.view disk).honest → IsCall A D.view (Closed disk) (Answered []) (Closed e.1)) }
     {
         let mut disk = disk;
+        let found = Before::of(&disk);
         let Ok(()) = disk.sync() else {
             return Err((StoreFault::DiskFault, disk));
         };
@@ -111,6 +120,7 @@ impl<A: Allocator + Copy, D: Disk> Store<A, D> {
                     ongoing: None,
                     register,
                     before,
+                    found,
                     broken: false,
                 })
             }

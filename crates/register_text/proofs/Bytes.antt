@@ -1,6 +1,7 @@
 -- What the bytes of lines are read as, and which bytes are read as a register.
-use Rattle.std.proofs.Common.{◌≡◌, ℕ, ◌+◌, Bool, true, false, List, [], ◌∷◌, ◌++◌, length, Option, Some, None, Result, Ok, Err, refl, sym, ap, ◌∙◌, append_assoc}
+use Rattle.std.proofs.Common.{◌≡◌, ℕ, ◌+◌, Bool, true, false, List, [], ◌∷◌, ◌++◌, length, Option, Some, None, Result, Ok, Err, refl, sym, ap, subst, ◌∙◌, append_assoc}
 use Rattle.std.specs.Prelude.{map as each, nat_le}
+use Rattle.std.specs.Result.{result_ok}
 use Rattle.std.specs.List.{All, slice_split, join_with_byte}
 use Rattle.std.proofs.lemmas.List.Elements.{All-nil, All-cons, All-head, All-tail}
 use Rattle.std.proofs.lemmas.List.Splits.{join_with_byte-slice_split}
@@ -8,16 +9,19 @@ use Rattle.registration.specs.declared.limits.Limits.{Limits}
 use Rattle.centre_core.specs.State.{State, IsState}
 use Rattle.centre_core.specs.StateRanges.{StateInRange}
 use Rattle.console.proofs.Splits.{is_feed}
+use Rattle.image_rows.specs.Loading.{Loading, begun, row_taken, state_of_rows}
 use Rattle.image_rows.specs.Rows.{Row, rows_of}
 use Rattle.register_text.specs.Lines.{row_line, IsLineRow}
-use Rattle.register_text.specs.Text.{TextLoading, IsUnder, line_taken, lines_taken, register_lines, text_begun, text_finished, then_lines, whole}
+use Rattle.register_text.specs.Text.{TextLoading, IsUnder, head_line, head_taken, line_taken, lines_taken, or_place, or_spelling, register_lines, state_of, text_begun, text_finished, then_lines, whole}
 use Rattle.register_text.specs.Dump.{HasNoFeed, IsTextOf, cut_or_long, end_read, ended, long_cause, longest_line, or_cut, parts_read, register_bytes, text_from, text_read, then_line}
 use Rattle.register_text.specs.declared.cause.Cause.{Cause}
+use Rattle.register_text.specs.declared.cause.Cause.TheVariants as cause
 use Rattle.register_text.specs.declared.load_fault.LoadFault.{LoadFault}
 use Rattle.register_text.specs.declared.load_fault.LoadFault.TheVariants as fault
 use Rattle.register_text.proofs.Parts.{line_step}
 use Rattle.register_text.proofs.Spaces.{line_has_no_feed}
-use Rattle.register_text.proofs.Texts.{are_lines, head_has_no_feed, lines_again, lines_both, lines_under}
+use Rattle.register_text.proofs.Texts.{are_lines, head_again, head_has_no_feed, lines_again, lines_both, lines_made, lines_under}
+use Rattle.register_text.proofs.Again.{line_again}
 
 no_state : {P : Type 0} (s : State) (e : (let o : Option State = None in o) ≡ Some s) → P
 no_state s e = absurd cc
@@ -32,8 +36,8 @@ finished_is n (Some t) s e = let same : t ≡ s = cc in ap Some same
 -- ---- lines that line feeds end
 
 -- the first line and its line feed
-first_line : (n : ℕ) (t : TextLoading) (line : List ℕ) (lines : List (List ℕ)) → HasNoFeed line → text_from n t (ended (line ∷ lines)) ≡ then_line n (line_taken t line) (λ u. text_from (n + 1) u (ended lines))
-first_line n t line lines none = ap (text_from n t) (append_assoc line (10 ∷ []) (ended lines)) ∙ line_step n t line (ended lines) none
+pub ended_line : (n : ℕ) (t : TextLoading) (line : List ℕ) (lines : List (List ℕ)) → HasNoFeed line → text_from n t (ended (line ∷ lines)) ≡ then_line n (line_taken t line) (λ u. text_from (n + 1) u (ended lines))
+ended_line n t line lines none = ap (text_from n t) (append_assoc line (10 ∷ []) (ended lines)) ∙ line_step n t line (ended lines) none
 
 no_bytes : (n : ℕ) (t : TextLoading) → text_from n t [] ≡ or_cut n (text_finished t)
 unfolding text_from
@@ -50,16 +54,16 @@ module _ (n : ℕ) (lines : List (List ℕ)) (s : State) where
   then_back (Err cause) later e = no_result (fault.Line n cause) s e
   then_back (Ok u) later e = later u e
 
-read_ended : (lines : List (List ℕ)) (n : ℕ) (t : TextLoading) (s : State) → All HasNoFeed lines → whole (lines_taken t lines) ≡ Some s → text_from n t (ended lines) ≡ Ok s
+pub read_ended : (lines : List (List ℕ)) (n : ℕ) (t : TextLoading) (s : State) → All HasNoFeed lines → whole (lines_taken t lines) ≡ Some s → text_from n t (ended lines) ≡ Ok s
 read_ended [] n t s none e = no_bytes n t ∙ ap (or_cut n) e
 read_ended (line ∷ lines) n t s none e =
-    first_line n t line lines (All-head HasNoFeed line lines none)
+    ended_line n t line lines (All-head HasNoFeed line lines none)
     ∙ then_read n lines s (line_taken t line) (λ u e. read_ended lines (n + 1) u s (All-tail HasNoFeed line lines none) e) e
 
-read_back : (lines : List (List ℕ)) (n : ℕ) (t : TextLoading) (s : State) → All HasNoFeed lines → text_from n t (ended lines) ≡ Ok s → whole (lines_taken t lines) ≡ Some s
+pub read_back : (lines : List (List ℕ)) (n : ℕ) (t : TextLoading) (s : State) → All HasNoFeed lines → text_from n t (ended lines) ≡ Ok s → whole (lines_taken t lines) ≡ Some s
 read_back [] n t s none e = finished_is n (text_finished t) s (sym (no_bytes n t) ∙ e)
 read_back (line ∷ lines) n t s none e =
-    then_back n lines s (line_taken t line) (λ u e. read_back lines (n + 1) u s (All-tail HasNoFeed line lines none) e) (sym (first_line n t line lines (All-head HasNoFeed line lines none)) ∙ e)
+    then_back n lines s (line_taken t line) (λ u e. read_back lines (n + 1) u s (All-tail HasNoFeed line lines none) e) (sym (ended_line n t line lines (All-head HasNoFeed line lines none)) ∙ e)
 
 -- ---- the lines of a register
 
@@ -67,7 +71,7 @@ rows_plain : (rows : List Row) → All IsLineRow rows → All HasNoFeed (each ro
 rows_plain [] are = All-nil HasNoFeed
 rows_plain (row ∷ rows) are = All-cons HasNoFeed (row_line row) (each row_line rows) (line_has_no_feed row (All-head IsLineRow row rows are).is_row) (rows_plain rows (All-tail IsLineRow row rows are))
 
-lines_plain : (s : State) → IsState s → StateInRange s → All HasNoFeed (register_lines s)
+pub lines_plain : (s : State) → IsState s → StateInRange s → All HasNoFeed (register_lines s)
 lines_plain s state ranges = All-cons HasNoFeed _ (each row_line (rows_of 1 s)) (head_has_no_feed s.registered.limits ranges.limits) (rows_plain (rows_of 1 s) (are_lines s state ranges))
 
 -- what was written is read as the register
@@ -77,6 +81,77 @@ bytes_again s state ranges = read_ended (register_lines s) 1 (text_begun s.regis
 -- under other limits as a register with the same rows
 pub bytes_under : (limits : Limits) (s t : State) → IsState s → StateInRange s → text_read limits (register_bytes s) ≡ Ok t → IsUnder limits (rows_of 1 s) t
 bytes_under limits s t state ranges e = lines_under limits s t state ranges (read_back (register_lines s) 1 (text_begun limits) t (lines_plain s state ranges) e)
+
+-- ---- what they make under any limits
+
+finished_ok : (n : ℕ) (o : Option State) → result_ok (or_cut n o) ≡ o
+finished_ok n None = refl
+finished_ok n (Some t) = refl
+
+then_same : (n : ℕ) (lines : List (List ℕ)) (r : Result TextLoading Cause) → ((u : TextLoading) → result_ok (text_from (n + 1) u (ended lines)) ≡ whole (lines_taken u lines))
+    → result_ok (then_line n r (λ u. text_from (n + 1) u (ended lines))) ≡ whole (then_lines r (λ u. lines_taken u lines))
+then_same n lines (Err cause) later = refl
+then_same n lines (Ok u) later = later u
+
+read_same : (lines : List (List ℕ)) (n : ℕ) (t : TextLoading) → All HasNoFeed lines → result_ok (text_from n t (ended lines)) ≡ whole (lines_taken t lines)
+read_same [] n t none = ap result_ok (no_bytes n t) ∙ finished_ok n (text_finished t)
+read_same (line ∷ lines) n t none =
+    ap result_ok (ended_line n t line lines (All-head HasNoFeed line lines none))
+    ∙ then_same n lines (line_taken t line) (λ u. read_same lines (n + 1) u (All-tail HasNoFeed line lines none))
+
+pub bytes_made : (limits : Limits) (s : State) → IsState s → StateInRange s → result_ok (text_read limits (register_bytes s)) ≡ state_of (state_of_rows limits (rows_of 1 s))
+bytes_made limits s state ranges = read_same (register_lines s) 1 (text_begun limits) (lines_plain s state ranges) ∙ lines_made limits s state ranges
+
+-- ---- why they make none
+
+-- a row can't come, or does not come
+abbrev pub IsOfRow : LoadFault → Type 0
+IsOfRow fault.Memory = ⊥
+IsOfRow fault.Read = ⊥
+IsOfRow (fault.Line n why) = why ≡ cause.Place
+IsOfRow (fault.Cut n) = Unit {0}
+
+one_fault : (a b : LoadFault) → ◌≡◌ {A = Result State LoadFault} (Err a) (Err b) → a ≡ b
+one_fault a b same = cc
+
+no_fault : {P : Type 0} (s : State) (f : LoadFault) (e : (let r : Result State LoadFault = Ok s in r) ≡ Err f) → P
+no_fault s f e = absurd cc
+
+end_refused : (n : ℕ) (o : Option State) (fault : LoadFault) → or_cut n o ≡ Err fault → IsOfRow fault
+end_refused n None f e = subst IsOfRow (one_fault (fault.Cut n) f e) tt
+end_refused n (Some s) f e = no_fault s f e
+
+module _ (n : ℕ) (lines : List (List ℕ)) (f : LoadFault) where
+  place_then : (o : Option Loading) → ((l : Loading) → text_from (n + 1) (record { stated = None; headed = true; rows = l }) (ended lines) ≡ Err f → IsOfRow f)
+      → then_line n (or_place o) (λ u. text_from (n + 1) u (ended lines)) ≡ Err f → IsOfRow f
+  place_then None later e = subst IsOfRow (one_fault (fault.Line n cause.Place) f e) refl
+  place_then (Some l) later e = later l e
+
+rows_refused : (rows : List Row) (n : ℕ) (l : Loading) (f : LoadFault) → All IsLineRow rows
+    → text_from n (record { stated = None; headed = true; rows = l }) (ended (each row_line rows)) ≡ Err f → IsOfRow f
+unfolding line_taken
+rows_refused [] n l f are e = end_refused n _ f (sym (no_bytes n (record { stated = None; headed = true; rows = l })) ∙ e)
+rows_refused (row ∷ rows) n l f are e =
+    let is = All-head IsLineRow row rows are in
+    place_then n (each row_line rows) f (row_taken l row) (λ m. rows_refused rows (n + 1) m f (All-tail IsLineRow row rows are)) (
+    sym (
+    ended_line n (record { stated = None; headed = true; rows = l }) (row_line row) (each row_line rows) (line_has_no_feed row is.is_row)
+    ∙ ap (λ (o : Option Row). then_line n (or_spelling None l o) (λ u. text_from (n + 1) u (ended (each row_line rows)))) (line_again row is)
+    )
+    ∙ e
+    )
+
+pub rows_at_fault : (m : ℕ) (limits : Limits) (s : State) (f : LoadFault) → IsState s → StateInRange s → text_from m (text_begun limits) (register_bytes s) ≡ Err f → IsOfRow f
+unfolding line_taken
+rows_at_fault m limits s f state ranges e =
+    let own = s.registered.limits in
+    rows_refused (rows_of 1 s) (m + 1) (begun limits) f (are_lines s state ranges) (
+    sym (
+    ended_line m (text_begun limits) (head_line own) (each row_line (rows_of 1 s)) (head_has_no_feed own ranges.limits)
+    ∙ ap (λ (b : Bool). then_line m (head_taken None (begun limits) b) (λ u. text_from (m + 1) u (ended (each row_line (rows_of 1 s))))) (head_again own ranges.limits)
+    )
+    ∙ e
+    )
 
 -- ---- bytes that are read
 

@@ -11,4 +11,9 @@ mod Parts
 mod Cuts
 mod Written
 mod Bytes
+mod Counting
+mod CutTexts
 mod WordGroups
+mod Passing
+mod Counted
+mod Dumped

@@ -1,9 +1,10 @@
 -- The lines of a register are taken as that register, and no others are.
-use Rattle.std.proofs.Common.{◌≡◌, ℕ, ◌+◌, Bool, true, false, List, [], ◌∷◌, Option, Some, None, Result, Ok, Err, refl, sym, ap, ◌∙◌, arith}
+use Rattle.std.proofs.Common.{◌≡◌, ℕ, ◌+◌, Bool, true, false, cond, List, [], ◌∷◌, ◌++◌, length, Option, Some, None, Result, Ok, Err, refl, sym, ap, subst, inl, inr, ◌∙◌, arith}
 use Rattle.std.specs.Prelude.{map as each, codes, decimal}
 use Rattle.std.specs.List.{All}
 use Rattle.std.specs.FinMap as map
 use Rattle.std.proofs.lemmas.List.Elements.{All-nil, All-cons, All-append, All-head, All-tail}
+use Rattle.std.proofs.lemmas.Bool.{eqb-true}
 use Rattle.std.proofs.lemmas.Slice.Eq.{bytes_eq-Decides}
 use Rattle.identity.specs.Number.{number}
 use Rattle.identity.specs.Path.{Path}
@@ -19,17 +20,19 @@ use Rattle.image_rows.specs.Rows.{Row, HeaderRow, RuleRow, RadioRow, MailRow, Se
 use Rattle.image_rows.specs.RowReading.{IsRow}
 use Rattle.image_rows.specs.RowSizes.{HasFewGroups}
 use Rattle.image_rows.specs.Loading.{◌>>=◌, Loading, all_taken, begun, finished, row_taken, state_of_rows}
+use Rattle.image_rows.proofs.Counts.{rows_counted}
 use Rattle.image_rows.proofs.Exactly.{only_these_rows}
 use Rattle.image_rows.proofs.Groups.{length_each}
 use Rattle.image_rows.proofs.Images.{are_rows}
 use Rattle.image_rows.proofs.RowsOfState.{rows_make_state}
 use Rattle.register_text.specs.Lines.{row_line, HasFirstEpoch, IsLineRow}
 use Rattle.register_text.specs.Reading.{line_row}
-use Rattle.register_text.specs.Text.{head_text, head_line, head_of, head_in, is_same, is_head, register_lines, TextLoading, head_taken, or_place, or_spelling, line_taken, then_lines, lines_taken, state_of, whole, state_in, IsUnder, AreLinesOf}
+use Rattle.register_text.specs.Text.{head_text, head_line, head_of, head_in, is_same, is_head, count_in, line_count, agrees_with, register_lines, TextLoading, count_taken, head_taken, or_place, or_spelling, line_taken, then_lines, lines_taken, state_of, whole, state_in, IsUnder, AreLinesOf}
 use Rattle.register_text.specs.declared.cause.Cause.{Cause}
 use Rattle.register_text.specs.declared.cause.Cause.TheVariants as cause
 use Rattle.register_text.proofs.Spaces.{AllPlain, decimal_plain, letters, no_feeds, words_back}
 use Rattle.register_text.proofs.Again.{line_again, number_again}
+use Rattle.register_text.proofs.Counted.{count_only}
 use Rattle.register_text.proofs.Only.{line_only}
 
 -- ---- the first line
@@ -138,7 +141,7 @@ are_lines s state ranges = both (rows_of 1 s) (are_rows 1 s (omega arith) (omega
 -- ---- lines of rows
 
 headed : Loading → TextLoading
-headed l = record { headed = true; rows = l }
+headed l = record { stated = None; headed = true; rows = l }
 
 -- what comes of a row that is taken
 with_row : (o : Option Loading) (rows : List Row) → ((n : Loading) → lines_taken (headed n) (each row_line rows) ≡ or_place (all_taken n rows)) →
@@ -151,7 +154,7 @@ rows_taken : (rows : List Row) (l : Loading) → All IsLineRow rows → lines_ta
 unfolding headed line_taken
 rows_taken [] l are = refl
 rows_taken (row ∷ rows) l are =
-    ap (λ o. then_lines (or_spelling l o) (λ u. lines_taken u (each row_line rows))) (line_again row (All-head IsLineRow row rows are))
+    ap (λ o. then_lines (or_spelling None l o) (λ u. lines_taken u (each row_line rows))) (line_again row (All-head IsLineRow row rows are))
     ∙ with_row (row_taken l row) rows (λ n. rows_taken rows n (All-tail IsLineRow row rows are))
 
 whole_place : (o : Option Loading) → whole (or_place o) ≡ state_of (o >>= finished)
@@ -162,7 +165,7 @@ whole_place (Some l) = refl
 pub lines_made : (limits : Limits) (s : State) → IsState s → StateInRange s → state_in limits (register_lines s) ≡ state_of (state_of_rows limits (rows_of 1 s))
 unfolding headed line_taken
 lines_made limits s state ranges =
-    ap (λ b. whole (then_lines (head_taken (begun limits) b) (λ u. lines_taken u (each row_line (rows_of 1 s))))) (head_again s.registered.limits ranges.limits)
+    ap (λ b. whole (then_lines (head_taken None (begun limits) b) (λ u. lines_taken u (each row_line (rows_of 1 s))))) (head_again s.registered.limits ranges.limits)
     ∙ ap whole (rows_taken (rows_of 1 s) (begun limits) (are_lines s state ranges))
     ∙ whole_place (all_taken (begun limits) (rows_of 1 s))
 
@@ -240,7 +243,7 @@ module _ (line : List ℕ) (lines : List (List ℕ)) (l : Loading) (r : TextLoad
         taken = ap (λ (o : Option Loading). o >>= λ m. all_taken m rest.rows) made ∙ rest.taken;
       }
 
-  line_then : (o : Option Row) → line_row line ≡ o → then_lines (or_spelling l o) (λ u. lines_taken u lines) ≡ Ok r → AreTaken l (line ∷ lines) r
+  line_then : (o : Option Row) → line_row line ≡ o → then_lines (or_spelling None l o) (λ u. lines_taken u lines) ≡ Ok r → AreTaken l (line ∷ lines) r
   line_then None said e = err_ok cause.Spelling r e
   line_then (Some row) said e = row_then row said (row_taken l row) refl e
 
@@ -253,24 +256,108 @@ taken_only (line ∷ lines) l r e = line_then line lines l r (λ n. taken_only l
 abbrev pub AreLinesUnder : Limits → List (List ℕ) → State → Type 0
 AreLinesUnder limits lines t = AreLinesOf lines t × (t.registered.limits ≡ limits)
 
-rows_then : (limits : Limits) (first : List ℕ) (lines : List (List ℕ)) (t : State) → is_head first ≡ true → (o : Result TextLoading Cause) → lines_taken (headed (begun limits)) lines ≡ o → whole o ≡ Some t → AreLinesUnder limits (first ∷ lines) t
+-- the lines after the first are those of all rows
+rows_by : (limits : Limits) (lines : List (List ℕ)) (t : State) (o : Result TextLoading Cause) → lines_taken (headed (begun limits)) lines ≡ o → whole o ≡ Some t
+    → (lines ≡ each row_line (rows_of 1 t)) × IsUnder limits (rows_of 1 t) t
 unfolding headed
-rows_then limits first lines t head (Err c) made e = none_some t e
-rows_then limits first lines t head (Ok r) made e =
+rows_by limits lines t (Err c) made e = none_some t e
+rows_by limits lines t (Ok r) made e =
     let rows = taken_only lines (begun limits) r made in
     let stood : state_of (state_of_rows limits rows.rows) ≡ Some t = ap (λ (o : Option Loading). state_of (o >>= finished)) rows.taken ∙ e in
     let read = read_as limits rows.rows t rows.fit stood in
-    (record { first = first; head = head; are = ap (λ (xs : List (List ℕ)). first ∷ xs) (rows.are ∙ ap (each row_line) read.are) }, read.under)
+    (rows.are ∙ ap (each row_line) read.are, record { are = refl; state = read.state; ranges = read.ranges; under = read.under })
 
-head_then : (limits : Limits) (first : List ℕ) (lines : List (List ℕ)) (t : State) (b : Bool) → is_head first ≡ b → whole (then_lines (head_taken (begun limits) b) (λ u. lines_taken u lines)) ≡ Some t → AreLinesUnder limits (first ∷ lines) t
+rows_are : (limits : Limits) (lines : List (List ℕ)) (t : State) → whole (lines_taken (headed (begun limits)) lines) ≡ Some t → (lines ≡ each row_line (rows_of 1 t)) × IsUnder limits (rows_of 1 t) t
+rows_are limits lines t e = rows_by limits lines t (lines_taken (headed (begun limits)) lines) refl e
+
+head_then : (limits : Limits) (first : List ℕ) (lines : List (List ℕ)) (t : State) (b : Bool) → is_head first ≡ b → whole (then_lines (head_taken None (begun limits) b) (λ u. lines_taken u lines)) ≡ Some t → AreLinesUnder limits (first ∷ lines) t
 unfolding headed
 head_then limits first lines t false is e = none_some t e
-head_then limits first lines t true is e = rows_then limits first lines t is (lines_taken (headed (begun limits)) lines) refl e
+head_then limits first lines t true is e =
+    let rows = rows_are limits lines t e in
+    (record { counts = []; first = first; head = is; stated = inl refl; are = ap (λ (xs : List (List ℕ)). first ∷ xs) rows.0 }, rows.1.under)
+
+-- ---- after a line that states their number
+
+-- the first of the rows agrees with what was stated
+FirstAgrees : ℕ → List (List ℕ) → Type 0
+FirstAgrees n lines = (line : List ℕ) (more : List (List ℕ)) (row : Row) → lines ≡ line ∷ more → line_row line ≡ Some row → agrees_with n row ≡ true
+
+-- the first line was taken, and this number was stated before it
+stated_as : ℕ → Loading → TextLoading
+stated_as n l = record { stated = Some n; headed = true; rows = l }
+
+first_line : (line other : List ℕ) (more others : List (List ℕ)) → line ∷ more ≡ other ∷ others → line ≡ other
+first_line line other more others e = cc
+
+one_row : (row other : Row) → Some row ≡ Some other → row ≡ other
+one_row row other e = cc
+
+module _ (n : ℕ) (limits : Limits) (line : List ℕ) (more : List (List ℕ)) (t : State) where
+  row_agrees : (row : Row) → line_row line ≡ Some row → (b : Bool) → agrees_with n row ≡ b
+      → whole (then_lines (or_place (cond b (row_taken (begun limits) row) None)) (λ u. lines_taken u more)) ≡ Some t
+      → (whole (then_lines (or_spelling None (begun limits) (Some row)) (λ u. lines_taken u more)) ≡ Some t) × FirstAgrees n (line ∷ more)
+  unfolding FirstAgrees
+  row_agrees row said true agrees e = (
+    e,
+    λ other others found is reads.
+        ap (agrees_with n) (one_row found row (sym reads ∙ ap line_row (sym (first_line line other more others is)) ∙ said)) ∙ agrees,
+  )
+  row_agrees row said false agrees e = none_some t e
+
+  spelling_agrees : (o : Option Row) → line_row line ≡ o → whole (then_lines (or_spelling (Some n) (begun limits) o) (λ u. lines_taken u more)) ≡ Some t
+      → (whole (then_lines (or_spelling None (begun limits) o) (λ u. lines_taken u more)) ≡ Some t) × FirstAgrees n (line ∷ more)
+  spelling_agrees None said e = none_some t e
+  spelling_agrees (Some row) said e = row_agrees row said (agrees_with n row) refl e
+
+rows_agree : (n : ℕ) (limits : Limits) (lines : List (List ℕ)) (t : State) → whole (lines_taken (stated_as n (begun limits)) lines) ≡ Some t
+    → (whole (lines_taken (headed (begun limits)) lines) ≡ Some t) × FirstAgrees n lines
+unfolding stated_as headed line_taken finished
+rows_agree n limits [] t e = none_some t e
+rows_agree n limits (line ∷ more) t e = spelling_agrees n limits line more t (line_row line) refl e
+
+-- so many lines there are
+lines_counted : (n : ℕ) (t : State) → IsState t → StateInRange t → FirstAgrees n (each row_line (rows_of 1 t)) → n ≡ 1 + length (rows_of 1 t)
+unfolding FirstAgrees
+lines_counted n t state ranges agrees =
+    let header : IsLineRow (HeaderRow (header_of 1 t)) = All-head IsLineRow (HeaderRow (header_of 1 t)) _ (are_lines t state ranges) in
+    let same : agrees_with n (HeaderRow (header_of 1 t)) ≡ true = agrees (row_line (HeaderRow (header_of 1 t))) _ (HeaderRow (header_of 1 t)) refl (line_again (HeaderRow (header_of 1 t)) header) in
+    eqb-true n (line_count (header_of 1 t)) same ∙ ap (λ (k : ℕ). 1 + k) (sym (rows_counted 1 t))
+
+module _ (limits : Limits) (count : List ℕ) (n : ℕ) (stated : count_in count ≡ Some n) (t : State) where
+  stated_head : (first : List ℕ) (lines : List (List ℕ)) (b : Bool) → is_head first ≡ b → whole (then_lines (head_taken (Some n) (begun limits) b) (λ u. lines_taken u lines)) ≡ Some t
+      → AreLinesUnder limits (count ∷ first ∷ lines) t
+  unfolding stated_as
+  stated_head first lines false is e = none_some t e
+  stated_head first lines true is e =
+      let agree = rows_agree n limits lines t e in
+      let rows = rows_are limits lines t agree.0 in
+      let n_is : n ≡ 1 + length (rows_of 1 t) = lines_counted n t rows.1.state rows.1.ranges (subst (FirstAgrees n) rows.0 agree.1) in (
+        record {
+          counts = count ∷ [];
+          first = first;
+          head = is;
+          stated = inr (ap (λ (line : List ℕ). line ∷ []) (count_only count n stated ∙ ap (λ (k : ℕ). codes "dump " ++ decimal k) n_is));
+          are = ap (λ (xs : List (List ℕ)). count ∷ first ∷ xs) rows.0;
+        },
+        rows.1.under,
+      )
+
+  after_count : (lines : List (List ℕ)) → whole (lines_taken (record { stated = Some n; headed = false; rows = begun limits }) lines) ≡ Some t → AreLinesUnder limits (count ∷ lines) t
+  unfolding line_taken finished
+  after_count [] e = none_some t e
+  after_count (first ∷ lines) e = stated_head first lines (is_head first) refl e
+
+-- the first of these lines states their number, or is the first line
+count_then : (limits : Limits) (first : List ℕ) (lines : List (List ℕ)) (t : State) (o : Option ℕ) → count_in first ≡ o
+    → whole (then_lines (count_taken None (begun limits) first o) (λ u. lines_taken u lines)) ≡ Some t → AreLinesUnder limits (first ∷ lines) t
+count_then limits first lines t None is e = head_then limits first lines t (is_head first) refl e
+count_then limits first lines t (Some n) is e = after_count limits first n is t lines e
 
 pub lines_both : (limits : Limits) (lines : List (List ℕ)) (t : State) → state_in limits lines ≡ Some t → AreLinesUnder limits lines t
 unfolding line_taken finished
 lines_both limits [] t e = none_some t e
-lines_both limits (first ∷ lines) t e = head_then limits first lines t (is_head first) refl e
+lines_both limits (first ∷ lines) t e = count_then limits first lines t (count_in first) refl e
 
 pub lines_only : (limits : Limits) (lines : List (List ℕ)) (t : State) → state_in limits lines ≡ Some t → AreLinesOf lines t
 lines_only limits lines t e = (lines_both limits lines t e).0

@@ -1,6 +1,7 @@
 -- No line has more than 4,096 bytes: each word is short, and there are few of them.
-use Rattle.std.proofs.Common.{◌≡◌, ℕ, ◌+◌, ◌*◌, ◌/◌, ◌<◌, ◌≤◌, ◌^◌, Bool, true, false, List, [], ◌∷◌, ◌++◌, length, Option, Some, None, Result, Ok, Err, refl, ap, subst, ◌∙◌, arith}
+use Rattle.std.proofs.Common.{◌≡◌, ℕ, ◌+◌, ◌*◌, ◌/◌, ◌<◌, ◌≤◌, ◌^◌, Bool, true, false, List, [], ◌∷◌, ◌++◌, length, take, drop, cond, Option, Some, None, Result, Ok, Err, refl, ap, subst, ◌∙◌, arith, length-drop}
 use Rattle.std.specs.Prelude.{IfSome, codes, decimal}
+use Rattle.std.specs.Str.{bytes_eq}
 use Rattle.std.specs.List.{All, flat_map}
 use Rattle.std.specs.Result.{result_ok}
 use Rattle.std.proofs.lemmas.List.{length-append}
@@ -8,6 +9,7 @@ use Rattle.std.proofs.lemmas.List.Elements.{All-head, All-tail}
 use Rattle.std.proofs.lemmas.Slice.Eq.{bytes_eq-Decides}
 use Rattle.identity.specs.IdentityText.{identity_text, prefix_text}
 use Rattle.identity.specs.BitsText.{bits_text}
+use Rattle.identity.proofs.Texts.{reading_number_only}
 use Rattle.identity.proofs.Lengths.{decimal_fits, identity_fits, prefix_fits, bits_fit}
 use Rattle.mm_pdus.specs.Values.{lifetime_number}
 use Rattle.mailbox.specs.declared.key.Kind.{Kind}
@@ -20,8 +22,8 @@ use Rattle.listings.specs.Words.{kind_word}
 use Rattle.image_rows.specs.Rows.{Row, HeaderRow, RuleRow, RadioRow, MailRow, ServedRow, Group, GroupInRange}
 use Rattle.image_rows.specs.Loading.{Loading}
 use Rattle.register_text.specs.Lines.{fields, presence_word, group_words, copied_words, spaced, row_line, IsLineRow}
-use Rattle.register_text.specs.Reading.{line_row, number_in, most_4}
-use Rattle.register_text.specs.Text.{TextLoading, head_text, head_of, head_in, is_head, is_same, limits_in, head_taken, line_taken, line_taken_by, or_spelling}
+use Rattle.register_text.specs.Reading.{line_row, number_in, most_4, most_8}
+use Rattle.register_text.specs.Text.{TextLoading, count_after, count_taken, head_text, head_of, head_in, is_head, is_same, limits_in, head_taken, line_taken, line_taken_by, or_spelling}
 use Rattle.register_text.specs.Dump.{longest_line, long_cause}
 use Rattle.register_text.specs.declared.cause.Cause.TheVariants as cause
 use Rattle.register_text.proofs.Short.{number_most}
@@ -205,23 +207,45 @@ first_short line e = same_short line (head_in (words line)) (numbers_short (word
 
 -- ---- a line that is longer
 
-no_head : (l : Loading) (line : List ℕ) (b : Bool) → longest_line < length line → (b ≡ true → length line ≤ longest_line) → head_taken l b ≡ Err cause.Head
-no_head l line true long short = let n = short refl in absurd (omega (arith, long, n))
-no_head l line false long short = refl
+no_head : (stated : Option ℕ) (l : Loading) (line : List ℕ) (b : Bool) → longest_line < length line → (b ≡ true → length line ≤ longest_line) → head_taken stated l b ≡ Err cause.Head
+no_head stated l line true long short = let n = short refl in absurd (omega (arith, long, n))
+no_head stated l line false long short = refl
 
-no_row : (l : Loading) (line : List ℕ) (o : Option Row) → longest_line < length line → line_row line ≡ o → or_spelling l o ≡ Err cause.Spelling
-no_row l line None long e = refl
-no_row l line (Some row) long e =
+no_row : (stated : Option ℕ) (l : Loading) (line : List ℕ) (o : Option Row) → longest_line < length line → line_row line ≡ o → or_spelling stated l o ≡ Err cause.Spelling
+no_row stated l line None long e = refl
+no_row stated l line (Some row) long e =
     let spelt = line_only line row e in
     let n = row_short row spelt.0 in
     let m : length line ≡ length (row_line row) = ap length spelt.1 in
     absurd (omega (arith, long, n, m))
 
-refused_by : (headed : Bool) (l : Loading) (line : List ℕ) → longest_line < length line → line_taken_by headed l line ≡ Err (long_cause headed)
-refused_by false l line long = no_head l line (is_head line) long (first_short line)
-refused_by true l line long = no_row l line (line_row line) long refl
+-- it has no number of 64 bits after its first 5 bytes
+no_number : (line : List ℕ) (o : Option ℕ) → longest_line < length line → number_in most_8 (drop 5 line) ≡ o → o ≡ None
+no_number line None long e = refl
+no_number line (Some n) long e =
+    let only = reading_number_only most_8 n (drop 5 line) (omega arith) (ok_of _ n e) in
+    let fits = decimal_fits n (omega (arith, only.0)) in
+    let short : length (drop 5 line) ≡ length (decimal n) = ap length only.1 in
+    let all = length-drop 5 line in
+    absurd (omega (arith, long, fits, short, all))
+
+none_stated : (line : List ℕ) (b : Bool) → longest_line < length line → cond b (number_in most_8 (drop 5 line)) None ≡ None
+none_stated line true long = no_number line (number_in most_8 (drop 5 line)) long refl
+none_stated line false long = refl
+
+none_after : (stated : Option ℕ) (line : List ℕ) → longest_line < length line → count_after stated line ≡ None
+none_after None line long = none_stated line (bytes_eq (take 5 line) (codes "dump ")) long
+none_after (Some n) line long = refl
+
+no_head_by : (stated : Option ℕ) (l : Loading) (line : List ℕ) (o : Option ℕ) → longest_line < length line → o ≡ None → count_taken stated l line o ≡ Err cause.Head
+no_head_by stated l line None long e = no_head stated l line (is_head line) long (first_short line)
+no_head_by stated l line (Some n) long e = absurd cc
+
+refused_by : (headed : Bool) (stated : Option ℕ) (l : Loading) (line : List ℕ) → longest_line < length line → line_taken_by headed stated l line ≡ Err (long_cause headed)
+refused_by false stated l line long = no_head_by stated l line (count_after stated line) long (none_after stated line long)
+refused_by true stated l line long = no_row stated l line (line_row line) long refl
 
 -- no line that is longer can be taken
 pub long_refused : (t : TextLoading) (line : List ℕ) → longest_line < length line → line_taken t line ≡ Err (long_cause t.headed)
 unfolding line_taken
-long_refused t line long = refused_by t.headed t.rows line long
+long_refused t line long = refused_by t.headed t.stated t.rows line long

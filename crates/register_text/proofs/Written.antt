@@ -1,9 +1,10 @@
 -- What is written, and what is still to be written.
 use Rattle.std.proofs.Common.{◌≡◌, ℕ, suc, ◌+◌, ◌-◌, ◌<◌, ◌≤◌, List, [], ◌++◌, length, Option, Some, None, option_map, refl, sym, ap, ◌∙◌, arith, append_assoc}
-use Rattle.std.specs.Prelude.{map as each}
+use Rattle.std.specs.Prelude.{map as each, codes}
 use Rattle.std.specs.Io.KnownBytes.{Appends, Keeps, append_known}
 use Rattle.std.proofs.KnownBytes.{Keeps-refl, append_known-moved}
 use Rattle.std.proofs.lemmas.List.{append-nil}
+use Rattle.registration.specs.declared.limits.Limits.{Limits}
 use Rattle.prefix_tree.specs.Following.{one_by_one, then_on}
 use Rattle.centre_core.specs.State.{State, IsState}
 use Rattle.centre_core.specs.StateRanges.{StateInRange}
@@ -13,8 +14,8 @@ use Rattle.image_rows.specs.Walking.{place_of, row_after}
 use Rattle.image_rows.proofs.Walking.{rows_walk}
 use Rattle.image_rows.proofs.Counts.{rows_fit}
 use Rattle.register_text.specs.Lines.{row_line}
-use Rattle.register_text.specs.Text.{row_ended}
-use Rattle.register_text.specs.Dump.{ended}
+use Rattle.register_text.specs.Text.{head_line, row_ended}
+use Rattle.register_text.specs.Dump.{ended, register_bytes}
 
 -- all of the text was written
 pub passed : (a b : Option (List ℕ)) (old new : List ℕ) → Appends a b old → new ≡ [] → Keeps (append_known a old) (append_known b new)
@@ -39,6 +40,13 @@ all_written (Some x) (Some y) (Some z) None empty first head last more e f p q r
 all_written (Some x) (Some y) (Some z) (Some w) empty first head last more e f p q r =
     let begun : first ≡ head = f ∙ ap (λ (l : List ℕ). l ++ head) e in
     r ∙ q ∙ p ∙ ap (λ (l : List ℕ). (x ++ l) ++ more) begun ∙ append_assoc x head more
+
+-- the first line and those of the rows are the text
+pub first_text : (s : State) (l : Limits) (empty first : List ℕ) → empty ≡ [] → first ≡ empty ++ (head_line l ++ codes "\n") → l ≡ s.registered.limits
+    → first ++ ended (each row_line (rows_of 1 s)) ≡ register_bytes s
+first_text s l empty first none is own =
+    ap (λ (x : List ℕ). x ++ ended (each row_line (rows_of 1 s))) (is ∙ ap (λ (x : List ℕ). x ++ (head_line l ++ codes "\n")) none)
+    ∙ ap (λ (m : Limits). (head_line m ++ codes "\n") ++ ended (each row_line (rows_of 1 s))) own
 
 -- ---- rows one after another
 

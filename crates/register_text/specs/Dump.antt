@@ -77,6 +77,13 @@ IsLoadFault made fault.Read = Unit {0}
 IsLoadFault made (fault.Line n cause) = made ≡ Err (fault.Line n cause)
 IsLoadFault made (fault.Cut n) = made ≡ Err (fault.Cut n)
 
+-- a row can't come under other limits
+abbrev pub IsOfPlace : LoadFault → Type 0
+IsOfPlace fault.Memory = ⊥
+IsOfPlace fault.Read = ⊥
+IsOfPlace (fault.Line n why) = why ≡ cause.Place
+IsOfPlace (fault.Cut n) = ⊥
+
 -- the text is all that a reader had left, where that is known
 abbrev pub IsAll : Option (List Byte) → List Byte → Type 0
 IsAll None text = Unit {0}

@@ -1,15 +1,16 @@
 -- The text of a register: a line with its form, version and limits, and then a line for each row. A line feed ends each line.
-use Rattle.std.specs.Prelude.{◌≡◌, ℕ, Bool, true, false, List, [], ◌∷◌, ◌++◌, map as each, Option, Some, None, Result, Ok, Err, codes, decimal}
+use Rattle.std.specs.Prelude.{◌≡◌, ◌⊎◌, ◌+◌, ◌==◌, ℕ, Bool, true, false, List, [], ◌∷◌, ◌++◌, length, map as each, take, drop, Option, Some, None, Result, Ok, Err}
+use Rattle.std.specs.Prelude.{if◌then◌else◌, codes, decimal}
 use Rattle.std.specs.Str.{bytes_eq}
 use Rattle.identity.specs.Numbers.{Byte}
 use Rattle.registration.specs.declared.limits.Limits.{Limits}
 use Rattle.centre_core.specs.State.{State, IsState}
 use Rattle.centre_core.specs.StateRanges.{StateInRange}
 use Rattle.console.specs.Reading.{words}
-use Rattle.image_rows.specs.Rows.{Row, rows_of}
+use Rattle.image_rows.specs.Rows.{Row, Header, HeaderRow, row_count, rows_of}
 use Rattle.image_rows.specs.Loading.{Loading, begun, finished, row_taken}
 use Rattle.register_text.specs.Lines.{row_line, spaced}
-use Rattle.register_text.specs.Reading.{line_row, number_in, most_4}
+use Rattle.register_text.specs.Reading.{line_row, number_in, most_4, most_8}
 use Rattle.register_text.specs.declared.cause.Cause.{Cause}
 use Rattle.register_text.specs.declared.cause.Cause.TheVariants as cause
 
@@ -50,6 +51,35 @@ is_same line (Some text) = bytes_eq text line
 unfoldable pub is_head : List Byte → Bool
 is_head line = is_same line (head_in (words line))
 
+-- ---- the line before the first
+
+-- the number of 64 bits after a word, if that is `dump` with its space
+abbrev pub count_of : List Byte → List Byte → Option ℕ
+count_of word number = if bytes_eq word (codes "dump ") then number_in most_8 number else None
+
+-- the number of lines that follow, if a line states it, as the answer to the listing `dump` begins
+abbrev pub count_in : List Byte → Option ℕ
+count_in line = count_of (take 5 line) (drop 5 line)
+
+-- the number that a line states, if none before it did
+abbrev pub count_after : Option ℕ → List Byte → Option ℕ
+count_after None line = count_in line
+count_after (Some n) line = None
+
+-- how many lines a text has, by its row `count`: the first line, and one for each row
+abbrev pub line_count : Header → ℕ
+line_count h = 1 + row_count h
+
+-- whether a row agrees with the number of lines that was stated; only the header states it again
+abbrev pub agrees_with : ℕ → Row → Bool
+agrees_with n (HeaderRow h) = n == line_count h
+agrees_with n row = true
+
+-- whether a row agrees with the line before the first, if there was one
+abbrev pub is_as_stated : Option ℕ → Row → Bool
+is_as_stated None row = true
+is_as_stated (Some n) row = agrees_with n row
+
 -- ---- all lines
 
 -- the lines of a register
@@ -63,42 +93,52 @@ row_ended (Some row) = row_line row ++ codes "\n"
 
 -- ---- reading
 
--- whether the first line was taken, and what the rows so far make
+-- the number of lines that was stated, until the header came; whether the first line was taken; and what the rows so far make
 pub record TextLoading : Type 0 where
+  pub stated : Option ℕ
   pub headed : Bool
   pub rows : Loading
 
 -- no line is taken yet
 abbrev pub text_begun : Limits → TextLoading
-text_begun limits = record { headed = false; rows = begun limits }
+text_begun limits = record { stated = None; headed = false; rows = begun limits }
 
 -- the first line and these rows were taken
 abbrev pub with_rows : Loading → Result TextLoading Cause
-with_rows l = Ok (record { headed = true; rows = l })
+with_rows l = Ok (record { stated = None; headed = true; rows = l })
 
 -- the outcome of the first line
-abbrev pub head_taken : Loading → Bool → Result TextLoading Cause
-head_taken l true = with_rows l
-head_taken l false = Err cause.Head
+abbrev pub head_taken : Option ℕ → Loading → Bool → Result TextLoading Cause
+head_taken stated l true = Ok (record { stated = stated; headed = true; rows = l })
+head_taken stated l false = Err cause.Head
+
+-- the outcome of a line before the rows, by the number that it states
+abbrev pub count_taken : Option ℕ → Loading → List Byte → Option ℕ → Result TextLoading Cause
+count_taken stated l line None = head_taken stated l (is_head line)
+count_taken stated l line (Some n) = Ok (record { stated = Some n; headed = false; rows = l })
 
 -- the outcome of a row, by whether it may come next
 abbrev pub or_place : Option Loading → Result TextLoading Cause
 or_place None = Err cause.Place
 or_place (Some l) = with_rows l
 
+-- the loading with one more row, if that agrees with what was stated and may come next
+abbrev pub stated_taken : Option ℕ → Loading → Row → Option Loading
+stated_taken stated l row = if is_as_stated stated row then row_taken l row else None
+
 -- the outcome of a row's line, if it is one
-abbrev pub or_spelling : Loading → Option Row → Result TextLoading Cause
-or_spelling l None = Err cause.Spelling
-or_spelling l (Some row) = or_place (row_taken l row)
+abbrev pub or_spelling : Option ℕ → Loading → Option Row → Result TextLoading Cause
+or_spelling stated l None = Err cause.Spelling
+or_spelling stated l (Some row) = or_place (stated_taken stated l row)
 
 -- the outcome of the next line, by whether the first one was taken
-abbrev pub line_taken_by : Bool → Loading → List Byte → Result TextLoading Cause
-line_taken_by false l line = head_taken l (is_head line)
-line_taken_by true l line = or_spelling l (line_row line)
+abbrev pub line_taken_by : Bool → Option ℕ → Loading → List Byte → Result TextLoading Cause
+line_taken_by false stated l line = count_taken stated l line (count_after stated line)
+line_taken_by true stated l line = or_spelling stated l (line_row line)
 
 -- what is loaded with one more line, or why it can't be taken
 unfoldable pub line_taken : TextLoading → List Byte → Result TextLoading Cause
-line_taken t line = line_taken_by t.headed t.rows line
+line_taken t line = line_taken_by t.headed t.stated t.rows line
 
 -- goes on after a line that was taken
 abbrev pub then_lines : Result TextLoading Cause → (TextLoading → Result TextLoading Cause) → Result TextLoading Cause
@@ -137,8 +177,14 @@ pub record IsUnder (limits : Limits) (rows : List Row) (t : State) : Type 0 wher
   pub ranges : StateInRange t
   pub under : t.registered.limits ≡ limits
 
--- these lines are those of the register, but for the numbers of the first one
+-- no line, or the line `dump N` for so many
+abbrev pub MayState : ℕ → List (List Byte) → Type 0
+MayState n lines = (lines ≡ []) ⊎ (lines ≡ (codes "dump " ++ decimal n) ∷ [])
+
+-- these lines are those of the register, but for the numbers of the first one. Before it one may state how many follow
 pub record AreLinesOf (lines : List (List Byte)) (t : State) : Type 0 where
+  pub counts : List (List Byte)
   pub first : List Byte
   pub head : is_head first ≡ true
-  pub are : lines ≡ first ∷ each row_line (rows_of 1 t)
+  pub stated : MayState (1 + length (rows_of 1 t)) counts
+  pub are : lines ≡ counts ++ (first ∷ each row_line (rows_of 1 t))

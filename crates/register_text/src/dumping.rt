@@ -1,18 +1,20 @@
 //! A register's text, written to any writer.
-ghost use Rattle.std.specs.Prelude.{◌≡◌, ◌++◌, [], OnOk, codes, map as each};
+ghost use Rattle.std.specs.Prelude.{◌≡◌, ◌++◌, [], IfErr, OnOk, codes, map as each};
 ghost use Rattle.std.specs.Io.KnownBytes.{Appends, Keeps, append_known};
 ghost use Rattle.register_text.specs.Dump.{ended, register_bytes};
+ghost use Rattle.register_text.specs.Inside.Going.{IsHeld, IsRefused};
+ghost use Rattle.register_text.specs.Passing.{IsUnwritten, IsWritten};
 ghost use Rattle.image_rows.specs.Rows.{rows_of};
 ghost use Rattle.register_text.specs.Lines.{row_line};
 ghost use Rattle.register_text.specs.Text.{head_line};
 
+use crate::TextSink;
 use crate::head::print_head;
 use crate::writer::line_after;
 use centre_core::Register;
 use centre_core::laws::registers;
 use registration::Limits;
 use std::alloc::{AllocError, Allocator};
-use std::io::Write;
 
 /// The text is written once it has so many bytes.
 const PIECE: usize = 32768;
@@ -34,11 +36,13 @@ fn put_first_line<A: Allocator>(text: &mut Vec<u8, A>, limits: &Limits) -> Resul
 }
 
 // Writes the text, and empties it.
-fn write_out<W: Write, A: Allocator>(out: &mut W, text: &mut Vec<u8, A>) -> Result<(), DumpFault>
+fn write_out<W: TextSink, A: Allocator>(out: &mut W, text: &mut Vec<u8, A>) -> Result<(), DumpFault>
     ensures ok { OnOk result (Appends (W.contents out.old) (W.contents out.new) text.old.items) }
     ensures empty { OnOk result (text.new.items ≡ []) }
+    ensures took { OnOk result (W.took out.old text.old.items out.new) }
+    ensures refused { IfErr result (IsRefused W.failed out.old out.new) }
 {
-    let Ok(()) = out.write_all(text) else {
+    let Ok(()) = out.write_text(text) else {
         return Err(DumpFault::Write);
     };
     text.clear();
@@ -46,9 +50,11 @@ fn write_out<W: Write, A: Allocator>(out: &mut W, text: &mut Vec<u8, A>) -> Resu
 }
 
 // Writes the text once it is long enough.
-#[tactic(auto, using(crate::proofs::Written::same, crate::proofs::Written::passed))]
-fn pass_on<W: Write, A: Allocator>(out: &mut W, text: &mut Vec<u8, A>) -> Result<(), DumpFault>
-    ensures { OnOk result (Keeps (append_known (W.contents out.old) text.old.items) (append_known (W.contents out.new) text.new.items)) }
+#[tactic(auto, using(crate::proofs::Written::same, crate::proofs::Written::passed, crate::proofs::Passing::not_called, crate::proofs::Passing::out_taken))]
+fn pass_on<W: TextSink, A: Allocator>(out: &mut W, text: &mut Vec<u8, A>) -> Result<(), DumpFault>
+    ensures known { OnOk result (Keeps (append_known (W.contents out.old) text.old.items) (append_known (W.contents out.new) text.new.items)) }
+    ensures held { OnOk result (IsHeld W.took out.old text.old.items out.new text.new.items []) }
+    ensures refused { IfErr result (IsRefused W.failed out.old out.new) }
 {
     if text.len() < PIECE {
         return Ok(());
@@ -57,14 +63,16 @@ fn pass_on<W: Write, A: Allocator>(out: &mut W, text: &mut Vec<u8, A>) -> Result
 }
 
 // Writes the lines of all rows, and leaves the last of them in the text.
-fn write_rows<A: Allocator + Clone, B: Allocator + Clone, W: Write>(
+fn write_rows<A: Allocator + Clone, B: Allocator + Clone, W: TextSink>(
     alloc: &B,
     out: &mut W,
     text: &mut Vec<u8, B>,
     register: &Register<A>,
 ) -> Result<(), DumpFault>
-    ensures { OnOk result (Appends (append_known (W.contents out.old) text.old.items) (append_known (W.contents out.new) text.new.items)
+    ensures known { OnOk result (Appends (append_known (W.contents out.old) text.old.items) (append_known (W.contents out.new) text.new.items)
         (ended (each row_line (rows_of 1 register.now)))) }
+    ensures held { OnOk result (IsHeld W.took out.old text.old.items out.new text.new.items (ended (each row_line (rows_of 1 register.now)))) }
+    ensures unwritten { IfErr result (IsUnwritten W.took W.failed (text.old.items ++ ended (each row_line (rows_of 1 register.now))) out.old out.new) }
 {
     registers(register);
     let mut after = None;
@@ -84,13 +92,18 @@ fn write_rows<A: Allocator + Clone, B: Allocator + Clone, W: Write>(
 }
 
 /// Writes the whole text of a register, and has it passed on. Beside some lines of it, only a copy of a PDU needs memory.
-/// After a fault some of the text may be written.
-pub fn write_register<A: Allocator + Clone, B: Allocator + Clone, W: Write>(
+///
+/// # Errors
+/// `Write` only if the writer failed, and `Memory` only if it did not. After a fault a prefix of the text is written.
+pub fn write_register<A: Allocator + Clone, B: Allocator + Clone, W: TextSink>(
     alloc: &B,
     out: &mut W,
     register: &Register<A>,
 ) -> Result<(), DumpFault>
-    ensures { OnOk result (Appends (W.contents out.old) (W.contents out.new) (register_bytes register.now)) }
+    ensures known { OnOk result (Appends (W.contents out.old) (W.contents out.new) (register_bytes register.now)) }
+    // Over any writer: what it took, and why no more.
+    ensures written { OnOk result (IsWritten W.took W.flushed (register_bytes register.now) out.old out.new) }
+    ensures unwritten { IfErr result (IsUnwritten W.took W.failed (register_bytes register.now) out.old out.new) }
 {
     let Ok(own) = alloc.clone() else {
         return Err(DumpFault::Memory);
@@ -101,7 +114,7 @@ pub fn write_register<A: Allocator + Clone, B: Allocator + Clone, W: Write>(
     };
     write_rows(alloc, out, &mut text, register)?;
     write_out(out, &mut text)?;
-    match out.flush() {
+    match out.flush_text() {
         Ok(()) => Ok(()),
         Err(_) => Err(DumpFault::Write),
     }

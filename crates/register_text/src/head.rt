@@ -3,7 +3,7 @@ ghost use Rattle.std.specs.Prelude.{◌≡◌, ◌++◌, IfOk, OnOk, OnErr, map,
 ghost use Rattle.identity.specs.NumberText.{IsPrefixOf};
 ghost use Rattle.console.specs.Reading.{words};
 ghost use Rattle.register_text.specs.Reading.{most_4, number_in};
-ghost use Rattle.register_text.specs.Text.{head_in, head_line, head_of, head_text, is_head, limits_in};
+ghost use Rattle.register_text.specs.Text.{head_in, head_line, head_of, head_text, count_in, count_of, is_head, limits_in};
 
 use crate::fields::number_in;
 use crate::parsing::words;
@@ -103,6 +103,27 @@ fn numbers_of<A: Allocator>(alloc: A, line: &[u8]) -> Result<Option<Numbers>, Al
 {
     let words = words(alloc, line)?;
     Ok(numbers_in(&words))
+}
+
+fn count_of(word: &[u8], number: &[u8]) -> Option<u64>
+    ensures { result ≡ count_of word.now number.now }
+{
+    if word == b"dump ".as_slice() {
+        number_in(number, u64::MAX)
+    } else {
+        None
+    }
+}
+
+/// The number of lines that follow, if a line states it: `dump N`.
+#[tactic(auto, using(crate::proofs::Counted::none_short, crate::proofs::Counted::count_read))]
+pub(crate) fn count_in(line: &[u8]) -> Option<u64>
+    ensures { result ≡ count_in line.now }
+{
+    if line.len() < 5 {
+        return None;
+    }
+    count_of(&line[..5], &line[5..])
 }
 
 /// Whether a line may be the first: it is byte by byte the first line of some register's text.

@@ -12,6 +12,8 @@ mod loader;
 mod loading;
 mod parsing;
 mod printing;
+mod sink;
+mod source;
 mod words;
 mod writer;
 
@@ -23,4 +25,6 @@ pub use loader::{TakeFault, TextLoader};
 pub use loading::read_register;
 pub use parsing::parse_row;
 pub use printing::print_row;
+pub use sink::TextSink;
+pub use source::TextSource;
 pub use writer::line_after;

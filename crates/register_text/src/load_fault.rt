@@ -10,6 +10,7 @@ pub enum LoadFault {
     Read,
     /// The line of this number can't be taken.
     Line(u64, Cause),
-    /// The text ends before the line feed of this line. All lines before it were taken.
+    /// The text is cut: it ends before the line feed of this line, or lines are missing from this one on. All lines before it were taken. No text
+    /// of a whole register is refused so, whatever the limits ([`cut_texts`](crate::laws::cut_texts)).
     Cut(u64),
 }

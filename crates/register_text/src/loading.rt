@@ -2,8 +2,10 @@
 ghost use Rattle.std.specs.Prelude.{◌≡◌, ◌≤◌, ◌<◌, ◌+◌, ◌-◌, ◌^◌, ◌++◌, ◌∷◌, [], List, ℕ, length, take, drop};
 ghost use Rattle.std.specs.Prelude.{slice_get, MatchOption, IfErr, IfOk, OnOk, IfSome, Ok, Some};
 ghost use Rattle.register_text.specs.Dump.{HasNoFeed, IsAll, IsLoadFault, long_cause, longest_line, text_read};
-ghost use Rattle.register_text.specs.Inside.Going.{FitsPiece, IsKept, IsPiece, outcome};
+ghost use Rattle.register_text.specs.Inside.Going.{IsKept, IsOfLine, outcome};
+ghost use Rattle.register_text.specs.Passing.{IsUnread, IsWhole};
 
+use crate::TextSource;
 use crate::cause::Cause;
 use crate::load_fault::LoadFault;
 use crate::loader::{TakeFault, TextLoader};
@@ -11,7 +13,6 @@ use centre_core::Register;
 use memchr::memchr;
 use registration::Limits;
 use std::alloc::{AllocError, Allocator};
-use std::io::{ErrorKind, Read};
 
 /// The most bytes of a line, without its line feed.
 const LONGEST: usize = 4096;
@@ -25,21 +26,6 @@ struct Reading<A: Allocator> {
     loader: TextLoader<A>,
     number: u64,
     line: Vec<u8, A>,
-}
-
-// Calls the reader once. It gives no byte where the call was interrupted, and `None` at the end.
-fn next_piece<R: Read>(reader: &mut R, buffer: &mut [u8]) -> Result<Option<usize>, LoadFault>
-    requires { 0 < length buffer.old }
-    ensures bound { IfOk result (λ piece. FitsPiece piece (length buffer.new)) }
-    ensures ok { IfOk result (λ piece. (input : List ℕ) → R.remaining reader.old ≡ Some input → IsPiece piece buffer.new input (R.remaining reader.new)) }
-    ensures err { IfErr result (λ fault. fault ≡ LoadFault.Read) }
-{
-    match reader.read(buffer) {
-        Ok(0) => Ok(None),
-        Ok(n) => Ok(Some(n)),
-        Err(e) if e.kind() == ErrorKind::Interrupted => Ok(Some(0)),
-        Err(_) => Err(LoadFault::Read),
-    }
 }
 
 /// Where the next line feed is, from `at` on.
@@ -85,6 +71,7 @@ impl<A: Allocator + Clone> Reading<A> {
         requires plain { HasNoFeed end.now }
         ensures ok { OnOk result ((left : List ℕ) → outcome self.old (end.now ++ 10 ∷ left) ≡ outcome self.new left) }
         ensures fault { IfErr result (λ fault. (left : List ℕ) → IsLoadFault (outcome self.old (end.now ++ 10 ∷ left)) fault) }
+        ensures kinds { IfErr result IsOfLine }
         ensures kept { OnOk result (IsKept self.new.line.items) }
         ensures number { OnOk result (self.new.number ≡ self.old.number + 1) }
     {
@@ -108,6 +95,7 @@ impl<A: Allocator + Clone> Reading<A> {
         requires plain { HasNoFeed part.now }
         ensures ok { OnOk result ((left : List ℕ) → outcome self.old (part.now ++ left) ≡ outcome self.new left) }
         ensures fault { IfErr result (λ fault. (left : List ℕ) → IsLoadFault (outcome self.old (part.now ++ left)) fault) }
+        ensures kinds { IfErr result IsOfLine }
         ensures kept { OnOk result (IsKept self.new.line.items) }
         ensures number { self.new.number ≡ self.old.number }
     {
@@ -127,6 +115,7 @@ impl<A: Allocator + Clone> Reading<A> {
         requires kept { IsKept self.old.line.items }
         ensures ok { OnOk result ((left : List ℕ) → outcome self.old (piece.now ++ left) ≡ outcome self.new left) }
         ensures fault { IfErr result (λ fault. (left : List ℕ) → IsLoadFault (outcome self.old (piece.now ++ left)) fault) }
+        ensures kinds { IfErr result IsOfLine }
         ensures kept { OnOk result (IsKept self.new.line.items) }
         ensures number { OnOk result (self.new.number ≤ self.old.number + length piece.now) }
     {
@@ -139,16 +128,21 @@ impl<A: Allocator + Clone> Reading<A> {
     }
 
     // Takes all that the reader gives.
-    fn take_all<R: Read>(&mut self, reader: &mut R) -> Result<(), LoadFault>
+    fn take_all<R: TextSource>(&mut self, reader: &mut R) -> Result<(), LoadFault>
         requires first { self.old.number ≡ 1 }
         requires kept { IsKept self.old.line.items }
         ensures ok { OnOk result ((text : List ℕ) × IsAll (R.remaining reader.old) text × (outcome self.old text ≡ outcome self.new [])) }
         ensures fault { IfErr result (λ fault. (text : List ℕ) → R.remaining reader.old ≡ Some text → IsLoadFault (outcome self.old text) fault) }
         ensures kept { OnOk result (IsKept self.new.line.items) }
+        ensures whole { OnOk result ((text : List ℕ) × IsWhole R.gave R.ended reader.old reader.new text × (outcome self.old text ≡ outcome self.new [])) }
+        ensures unread { IfErr result (IsUnread R.gave R.ended R.failed (outcome self.old) reader.old reader.new) }
     {
         let mut buffer = [0u8; PIECE];
         for _ in 0..u32::MAX {
-            match next_piece(reader, &mut buffer)? {
+            let Ok(next) = reader.next_piece(&mut buffer) else {
+                return Err(LoadFault::Read);
+            };
+            match next {
                 None => return Ok(()),
                 Some(n) => self.take_piece(&buffer[..n])?,
             }
@@ -179,13 +173,21 @@ impl<A: Allocator + Clone> Reading<A> {
 
 /// Reads the text of a register to its end, and makes the register of it under these limits. Beside the register it keeps
 /// one line, of at most 4,096 bytes: a longer one is never kept whole, and can't be taken.
-pub fn read_register<A: Allocator + Clone, R: Read>(
+///
+/// # Errors
+/// `Line` and `Cut` for the first fault of the text. `Read` only if the reader failed, or gave no end in 4,294,967,295 calls, and no line
+/// of what it gave is at fault. `Memory` only before its end, and if no line is at fault before the piece of at most 65,536 bytes that
+/// it gave last.
+pub fn read_register<A: Allocator + Clone, R: TextSource>(
     alloc: A,
     limits: Limits,
     reader: &mut R,
 ) -> Result<Register<A>, LoadFault>
     ensures ok { IfOk result (λ register. (text : List ℕ) × IsAll (R.remaining reader.old) text × (text_read limits text ≡ Ok register)) }
     ensures fault { IfErr result (λ fault. IfSome (R.remaining reader.old) (λ text. IsLoadFault (text_read limits text) fault)) }
+    // Over any reader: what it gave, and why no more.
+    ensures whole { IfOk result (λ register. (text : List ℕ) × IsWhole R.gave R.ended reader.old reader.new text × (text_read limits text ≡ Ok register)) }
+    ensures unread { IfErr result (IsUnread R.gave R.ended R.failed (text_read limits) reader.old reader.new) }
 {
     let Ok(mut reading) = Reading::new(alloc, limits) else {
         return Err(LoadFault::Memory);

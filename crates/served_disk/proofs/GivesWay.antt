@@ -12,7 +12,7 @@ use Rattle.listings.specs.Texts.{is_line}
 use Rattle.listings.specs.declared.listing.Listing.{Listing}
 use Rattle.listings.specs.declared.listing.Listing.TheVariants as listing
 use Rattle.console.specs.declared.line.Line.{Line}
-use Rattle.console.specs.declared.line.Line.TheVariants.{Silent, Bad, Apply, Ask, Print, Mark, OwnStation, Forbidden}
+use Rattle.console.specs.declared.line.Line.TheVariants.{Silent, Bad, Apply, Ask, Print, Mark, OwnStation, Service, Forbidden}
 use Rattle.console.specs.declared.answer.Answer.{Answer}
 use Rattle.console.specs.declared.answer.Answer.TheVariants as answer
 use Rattle.console.specs.Answer.{is_list, IsLine, IsOneLine}
@@ -39,6 +39,8 @@ module _ {A : Type 0} where
   query_outage s q (answer.Listed lines) long is = absurd is
   query_outage s q (answer.Marked word) long is = absurd is
   query_outage s q (answer.OwnStation station) long is = absurd is
+  query_outage s q (answer.Service lines) long is = absurd is
+  query_outage s q (answer.ServiceOutage number) long is = absurd is
   query_outage s q (answer.Forbidden sequence) long is = absurd is
 
   short : (a b : Answer A) → a ≡ b → IsLine b → IsLine a
@@ -52,6 +54,7 @@ module _ {A : Type 0} where
   gives_way s (Print l) a none long is = absurd none
   gives_way s (Mark word) a none long is = absurd (long (short a _ is tt))
   gives_way s (OwnStation station) a none long is = absurd (long (short a _ is tt))
+  gives_way s Service a none long is = absurd (long (short a _ is tt))
   gives_way s (Forbidden sequence) a none long is = absurd (long (short a _ is tt))
 
   pub shown : (s : State) (whole out : List ℕ) (troubled : Bool) (a : Answer A) → ShowsReading s (reading 1 whole) a × HasNoListing A (reading 1 whole) → IsTextOf a out troubled → IsShown A s whole out troubled
@@ -72,6 +75,7 @@ pub no_line_is_a_list : (l : Listing) → (is_line l ≡ true → ⊥) → is_li
 no_line_is_a_list (listing.Entries table) long = refl
 no_line_is_a_list (listing.Last station) long = absurd (long refl)
 no_line_is_a_list listing.Room long = absurd (long refl)
+no_line_is_a_list listing.Dump long = refl
 
 -- what was written after nothing
 pub written_first : {X E : Type 0} (r : Result X E) (old new more : List ℕ) → old ≡ [] → is_ok r ≡ true → OnOk r (new ≡ old ++ more) → new ≡ more

@@ -4,5 +4,7 @@ mod Borrowed
 mod NotOpened
 mod Reasons
 mod Stations
+mod RoundTrips
 mod AtOpening
 mod Inputs
+mod OfRest

@@ -1,5 +1,5 @@
 -- Why a call of a disk was refused.
-use Rattle.std.proofs.Common.{◌≡◌, ◌∙◌, ◌≤◌, Result, Ok, Err, IfErr, IfOk, OnOk, is_ok, is_err, true, ap, arith, inl, inr, subst, sym}
+use Rattle.std.proofs.Common.{◌≡◌, ◌∙◌, ◌≤◌, ℕ, List, refl, Result, Ok, Err, IfErr, IfOk, OnOk, is_ok, is_err, true, ap, arith, inl, inr, subst, sym}
 use mathlib.Core.Bool.{false≢true}
 use Rattle.sector_disk.specs.Disk.{View, HasFailed}
 use Rattle.recovery.specs.declared.fault.StoreFault.{StoreFault}
@@ -7,8 +7,13 @@ use Rattle.recovery.specs.declared.fault.StoreFault.TheVariants.{BadGeometry, Br
 use Rattle.recovery.specs.Checking.{IsOfCheck}
 use Rattle.recovery.specs.Damage.{IsOfDamage}
 use Rattle.recovery.specs.Opening.{Fails}
+use Rattle.file_disk.specs.declared.fault.FileFault.{FileFault}
+use Rattle.file_disk.specs.declared.fault.FileFault.TheVariants as file
+use Rattle.file_disk.specs.declared.fault.OpenCause.{OpenCause}
 use Rattle.served_disk.specs.declared.fault.Fault.{Fault}
-use Rattle.served_disk.specs.Faults.{of_store}
+use Rattle.served_disk.specs.declared.fault.Fault.TheVariants as fault
+use Rattle.served_disk.specs.Faults.{IsOfFile, Names, of_store}
+use Rattle.served_disk.specs.Making.{IsOfMaking}
 use Rattle.served_disk.specs.Refusals.{IsUnmade}
 
 -- out of memory is no device fault
@@ -69,3 +74,27 @@ pub unmade : (done : Result Unit StoreFault) (fault : Fault) (old new : View) �
     → IfErr done (λ e. (e ≡ DiskFault) × HasFailed old new) → IsUnmade old new fault
 unmade (Ok u) fault old new failed is why = absurd (false≢true failed)
 unmade (Err e) fault old new failed is why = (is ∙ ap of_store why.0, why.1)
+
+-- a file that was not made is named
+names_made : (is : Fault) (name : List ℕ) (cause : OpenCause) → Names is name cause → IsOfMaking name is
+names_made (fault.File text why) name cause named = named.0
+names_made fault.Settings name cause named = absurd named
+names_made fault.Unformatted name cause named = absurd named
+names_made fault.BadGeometry name cause named = absurd named
+names_made (fault.Damaged sector) name cause named = absurd named
+names_made fault.Device name cause named = absurd named
+names_made fault.Memory name cause named = absurd named
+names_made fault.Epochs name cause named = absurd named
+names_made (fault.Twice text) name cause named = absurd named
+names_made fault.TooMany name cause named = absurd named
+names_made (fault.NotServed station) name cause named = absurd named
+names_made fault.HalfLeftOut name cause named = absurd named
+names_made (fault.DumpLine line why) name cause named = absurd named
+names_made (fault.DumpCut line) name cause named = absurd named
+
+-- why a new file gave no disk; a new file keeps what is written
+pub of_created : (reason : FileFault) (name : List ℕ) (is : Fault) → IsOfFile reason name is → (reason ≡ file.KeepsNothing → ⊥) → IsOfMaking name is
+of_created (file.NotOpened cause) name is reported keeps = names_made is name cause reported
+of_created file.DiskFault name is reported keeps = subst (λ f. IsOfMaking name f) (sym reported) tt
+of_created file.NoMemory name is reported keeps = subst (λ f. IsOfMaking name f) (sym reported) tt
+of_created file.KeepsNothing name is reported keeps = absurd (keeps refl)

@@ -8,6 +8,7 @@ use Rattle.sector_disk.specs.Numbers.{Byte}
 use Rattle.file_disk.specs.declared.fault.OpenCause.TheVariants.{Other}
 use Rattle.recovery.specs.Opening.{IsOfOpening as IsOfStoreOpening}
 use Rattle.recovery.specs.OpensTo.{OpensTo}
+use Rattle.register_text.specs.declared.dumping.DumpFault.{DumpFault}
 use Rattle.register_text.specs.Dump.{register_bytes}
 use Rattle.served_disk.specs.declared.dumping.DiskDumpFault.{DiskDumpFault}
 use Rattle.served_disk.specs.declared.dumping.DiskDumpFault.TheVariants as dump
@@ -22,16 +23,24 @@ pub record IsDumped (before after : Option (List Byte)) (s : State) : Type 0 whe
   pub ranges : StateInRange s
   pub written : Appends before after (register_bytes s)
 
--- the text of a register was written; if the disk is honest, the register is the one that the disk's image opens to
-pub record IsDumpedBy (A : Type 0) (honest : Type 0) (image : List (List Byte)) (before after : Option (List Byte)) : Type 0 where
+-- The text of a register was written, as the contents of the writer say where they are known, and as its calls say. If the disk is honest,
+-- the register is the one that the disk's image opens to.
+pub record IsDumpedBy (A : Type 0) (honest : Type 0) (image : List (List Byte)) (before after : Option (List Byte)) (Written : List Byte → Type 0) : Type 0 where
   pub register : State
   pub kept : honest → OpensTo A register image
   pub dumped : IsDumped before after register
+  pub written : Written (register_bytes register)
 
--- the disk was not opened, for this reason; or, if it is honest, it opens to a register whose text was not written
-abbrev pub IsUndumped : (A : Type 0) → View → View → DiskDumpFault → Type 0
-IsUndumped A old new (dump.Opening fault) = IsUnopened A old new fault
-IsUndumped A old new (dump.Writing fault) = old.honest → (register : State) × OpensTo A register old.reads
+-- the text of a register was not written, for this reason; the register likewise
+pub record IsUnwrittenBy (A : Type 0) (honest : Type 0) (image : List (List Byte)) (Unwritten : List Byte → DumpFault → Type 0) (fault : DumpFault) : Type 0 where
+  pub register : State
+  pub kept : honest → OpensTo A register image
+  pub unwritten : Unwritten (register_bytes register) fault
+
+-- the disk was not opened, for this reason; or the text of its register was not written, for this one
+abbrev pub IsUndumped : (A : Type 0) → (List Byte → DumpFault → Type 0) → View → View → DiskDumpFault → Type 0
+IsUndumped A Unwritten old new (dump.Opening fault) = IsUnopened A old new fault
+IsUndumped A Unwritten old new (dump.Writing fault) = IsUnwrittenBy A old.honest old.reads Unwritten fault
 
 -- the fault that is reported for one of which this holds
 abbrev pub ReportsDump : (DiskDumpFault → Type 0) → Fault → Type 0

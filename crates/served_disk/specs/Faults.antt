@@ -102,6 +102,7 @@ abbrev pub IsOfFile : FileFault → List Byte → Fault → Type 0
 IsOfFile (file.NotOpened cause) name is = Names is name cause
 IsOfFile file.DiskFault name is = is ≡ fault.Device
 IsOfFile file.NoMemory name is = is ≡ fault.Memory
+IsOfFile file.KeepsNothing name is = is ≡ fault.Unformatted
 
 -- for a fault of a register on a disk
 abbrev pub of_store : StoreFault → Fault

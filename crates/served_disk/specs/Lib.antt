@@ -5,9 +5,13 @@ pub mod Files
 pub mod Loading
 pub mod Making
 pub mod Named
+pub mod Notices
 pub mod Refusals
+pub mod Rests
+pub mod RoundTrip
 pub mod Showing
 pub mod Checking
 pub mod Losses
 pub mod Stations
+pub mod Synced
 pub mod Printing

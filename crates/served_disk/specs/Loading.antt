@@ -7,6 +7,7 @@ use Rattle.register_text.specs.declared.load_fault.LoadFault.{LoadFault}
 use Rattle.register_text.specs.declared.load_fault.LoadFault.TheVariants as load
 use Rattle.served_disk.specs.declared.fault.Fault.{Fault}
 use Rattle.served_disk.specs.declared.fault.Fault.TheVariants as fault
+use Rattle.served_disk.specs.Faults.{IsOfLoad}
 
 -- why none is loaded from the file of this name: a line of the dump, or its end; the file was not read, or memory ran out
 abbrev pub IsOfLoading : List Byte → Fault → Type 0
@@ -21,3 +22,7 @@ abbrev pub IsReadAs : Result State LoadFault → Fault → Type 0
 IsReadAs made (fault.DumpLine line cause) = made ≡ Err (load.Line line cause)
 IsReadAs made (fault.DumpCut line) = made ≡ Err (load.Cut line)
 IsReadAs made other = Unit {0}
+
+-- the fault that is reported for one of which this holds, of reading the file of this name
+abbrev pub ReportsLoad : (LoadFault → Type 0) → List Byte → Fault → Type 0
+ReportsLoad P name fault = (reason : LoadFault) × P reason × IsOfLoad reason name fault

@@ -52,6 +52,14 @@ IsOfMaking name fault.Device = Unit {0}
 IsOfMaking name fault.Memory = Unit {0}
 IsOfMaking name other = ⊥
 
+-- why the file of this name was not taken as a disk: it was not opened, or keeps nothing; the device failed, or memory ran out
+abbrev pub IsOfTaking : List Byte → Fault → Type 0
+IsOfTaking name (fault.File text cause) = text.now ≡ name
+IsOfTaking name fault.Unformatted = Unit {0}
+IsOfTaking name fault.Device = Unit {0}
+IsOfTaking name fault.Memory = Unit {0}
+IsOfTaking name other = ⊥
+
 -- why the register on the disk in a file of this name was not opened; that the file exists is never the cause
 abbrev pub IsOfOpening : List Byte → Fault → Type 0
 IsOfOpening name (fault.File text cause) = (text.now ≡ name) × ¬ (cause ≡ Exists)

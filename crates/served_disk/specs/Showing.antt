@@ -30,6 +30,7 @@ module _ {A : Type 0} where
   ShowsReading s (line.Print l) given = AnswersListing of_register 1 s l given s
   ShowsReading s (line.Mark word) given = given ≡ answer.Bad 1 Syntax
   ShowsReading s (line.OwnStation station) given = given ≡ answer.Bad 1 Syntax
+  ShowsReading s line.Service given = given ≡ answer.Bad 1 Syntax
   ShowsReading s (line.Forbidden sequence) given = given ≡ answer.Bad 1 Syntax
 
   -- the text of an answer, and whether it reports trouble

@@ -12,32 +12,29 @@ use Rattle.recovery.specs.Lives.{StoreView}
 use Rattle.stations.specs.declared.orders.Orders.{Orders}
 use Rattle.stations.specs.declared.port.Port.{Port}
 use Rattle.stations.specs.Served.{HasServed}
+use Rattle.stations.specs.declared.station_run.StationRun.{StationRun}
 use Rattle.served_disk.specs.declared.fault.Fault.{Fault}
 use Rattle.served_disk.specs.declared.serving.Served.{Served}
 use Rattle.served_disk.specs.declared.port_names.PortNames.{PortNames}
 use Rattle.served_disk.specs.Faults.{IsOfRun, fault_status}
 use Rattle.served_disk.specs.Printing.{station_text}
 
--- what a station's answers were written to, and how its run has ended
-abbrev pub Run : Type 0 → Type 0
-Run O = O × Result Ran RunFault
-
--- Stations 1, 2 and so on were served over a store that was opened, each with the lines and to the writer of its port. It is given
--- which of them may give orders, and whether that broke the store.
-pub record AreServed {D I O : Type 0} (disk : D → View) (J : Type 0) (base : State) (orders : Orders) (unread : I → Option (List Byte)) (written : O → Option (List Byte))
-    (opened : StoreView Global D) (ports : List (Port I O)) (served : Served O) : Type 0 where
+-- Stations 1, 2 and so on were served over a store that was opened, each with the lines and to the writer of its port. Given are which of
+-- them may give orders, the most calls of each reader, and whether that broke the store.
+pub record AreServed {D I O : Type 0} (disk : D → View) (J : Type 0) (base : State) (orders : Orders) (turns : ℕ) (unread : I → Option (List Byte)) (written : O → Option (List Byte))
+    (opened : StoreView Global D) (ports : List (Port I O)) (served : Served I O) : Type 0 where
   pub store : StoreView Global D
-  pub runs : HasServed disk J base orders unread written opened ports store served.runs.items
+  pub runs : HasServed disk J base orders turns unread written opened ports store served.runs.items
   pub broken : served.is_broken ≡ store.broken
 
 -- the text of this station and those after it: each with the name of its file, and its answers
-abbrev pub text_from : Station → List PortNames → List (Run (Vec Byte Global)) → List Byte
+abbrev pub text_from : {I : Type 0} → Station → List PortNames → List (StationRun I (Vec Byte Global)) → List Byte
 text_from station [] runs = []
 text_from station (name ∷ names) [] = []
-text_from station (name ∷ names) (run ∷ runs) = (station_text station name.input.now ++ run.0.items) ++ text_from (station + 1) names runs
+text_from station (name ∷ names) (run ∷ runs) = (station_text station name.input.now ++ run.writer.items) ++ text_from (station + 1) names runs
 
 -- the text of all stations, the first of which is station 1
-abbrev pub stations_text : List PortNames → List (Run (Vec Byte Global)) → List Byte
+abbrev pub stations_text : {I : Type 0} → List PortNames → List (StationRun I (Vec Byte Global)) → List Byte
 stations_text names runs = text_from 1 names runs
 
 -- one run has ended: with whether an answer reported trouble, or with this fault
@@ -50,33 +47,37 @@ abbrev pub end_status : Result Bool Fault → ℕ
 end_status (Ok troubled) = cond troubled 1 0
 end_status (Err fault) = fault_status fault
 
-module _ {O : Type 0} where
-  -- an answer of this run reported trouble
-  abbrev pub is_troubled : Run O → Bool
-  is_troubled (answers, Ok ran) = ran.troubled
-  is_troubled (answers, Err fault) = false
+-- an answer of a run that ended so reported trouble
+abbrev pub reports_trouble : Result Ran RunFault → Bool
+reports_trouble (Ok ran) = ran.troubled
+reports_trouble (Err fault) = false
+
+module _ {I O : Type 0} where
+  -- an answer of this run did
+  abbrev pub is_troubled : StationRun I O → Bool
+  is_troubled run = reports_trouble run.ran
 
   -- the run came to the end of its text
-  abbrev pub IsWhole : Run O → Type 0
-  IsWhole run = is_ok run.1 ≡ true
+  abbrev pub IsWhole : StationRun I O → Type 0
+  IsWhole run = is_ok run.ran ≡ true
 
   -- the fault is that of the first run that has one
-  pub record IsFirst (names : List PortNames) (runs : List (Run O)) (reported : Fault) : Type 0 where
+  pub record IsFirst (names : List PortNames) (runs : List (StationRun I O)) (reported : Fault) : Type 0 where
     pub place : ℕ
     pub name : PortNames
-    pub run : Run O
+    pub run : StationRun I O
     pub fault : RunFault
     pub whole : All IsWhole (take place runs)
     pub named : slice_get names place ≡ Some name
     pub here : slice_get runs place ≡ Some run
-    pub failed : run.1 ≡ Err fault
+    pub failed : run.ran ≡ Err fault
     pub is : IsOfRun fault name reported
 
   -- all runs have ended: with the fault of the first that has one; else each is whole, and the result is whether one is troubled
-  abbrev pub HaveEnded : List PortNames → List (Run O) → Result Bool Fault → Type 0
+  abbrev pub HaveEnded : List PortNames → List (StationRun I O) → Result Bool Fault → Type 0
   HaveEnded names runs (Ok troubled) = All IsWhole runs × (troubled ≡ list_any is_troubled runs)
   HaveEnded names runs (Err reported) = IsFirst names runs reported
 
   -- a service over a sound disk has ended, with the exit status for how its runs have ended
-  abbrev pub HasServiceEnded : List PortNames → List (Run O) → Result ℕ Fault → Type 0
+  abbrev pub HasServiceEnded : List PortNames → List (StationRun I O) → Result ℕ Fault → Type 0
   HasServiceEnded names runs result = (end : Result Bool Fault) × HaveEnded names runs end × (result ≡ Ok (end_status end))

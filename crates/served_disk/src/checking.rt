@@ -4,6 +4,7 @@ ghost use Rattle.std.specs.List.{flat_map};
 ghost use Rattle.std.specs.Io.KnownBytes.{Appends};
 ghost use Rattle.sector_disk.specs.Disk.{HasFailed};
 ghost use Rattle.sector_disk.specs.Reading.{before_reads};
+ghost use Rattle.sector_disk.specs.Run.{HasOnlyRead};
 ghost use Rattle.sector_disk.specs.declared.record.Call.TheVariants.{Sync};
 ghost use Rattle.file_disk.specs.Disk.{IsNew, calls_of, file_view};
 ghost use Rattle.checkpoint.specs.Layout.{disk_size};
@@ -13,7 +14,7 @@ ghost use Rattle.recovery.specs.Damage.{IsOfDamage, IsOfState};
 ghost use Rattle.served_disk.specs.Calls.{IsOnlyRead, IsReadAtMost};
 ghost use Rattle.served_disk.specs.Checking.{IsReported, IsReportedBy, IsReportedOn, checked_text, damage_line, has_damage, is_well, kind_text};
 ghost use Rattle.served_disk.specs.Checking.{last_line, opening_word, reason_end, reason_text, sector_text, side_lines, whole_line};
-ghost use Rattle.served_disk.specs.Making.{IsOfMaking, IsOfOpening};
+ghost use Rattle.served_disk.specs.Making.{IsOfOpening, IsOfTaking};
 ghost use Rattle.served_disk.specs.Named.{IsRefused, OnDisk};
 ghost use Rattle.served_disk.specs.Refusals.{IsUnchecked, Reports};
 
@@ -238,7 +239,7 @@ fn report<A: Allocator + Drop>(
 }
 
 /// Makes the report of a disk that was checked. Its damaged sectors are read again.
-fn report_on<A: Allocator + Copy + Drop, D: Disk>(
+pub(crate) fn report_on<A: Allocator + Copy + Drop, D: Disk>(
     alloc: A,
     disk: &mut D,
     checked: &Checked,
@@ -247,6 +248,9 @@ fn report_on<A: Allocator + Copy + Drop, D: Disk>(
     requires on_disk { (at : ℕ) → IsDamagedAt at checked.now.a ⊎ IsDamagedAt at checked.now.b → at < (D.view disk.old).sectors }
     ensures reported { IfOk result (λ report. IsReportedOn A checked.now (D.view disk.old).honest (D.view disk.old).reads report.text.items report.well) }
     ensures kinds { IfErr result IsOfDamage }
+    ensures only_read { (D.view disk.old).honest → HasOnlyRead (D.view disk.old) (D.view disk.new) }
+    ensures sectors { (D.view disk.new).sectors ≡ (D.view disk.old).sectors }
+    ensures later { (D.view disk.old).failures ≤ (D.view disk.new).failures }
     ensures only_reads { before_reads (D.view disk.new).calls ≡ before_reads (D.view disk.old).calls }
     ensures fault { IsErrOf result DiskFault → HasFailed (D.view disk.old) (D.view disk.new) }
 {
@@ -303,7 +307,7 @@ pub fn check_disk<'a, F: SectorFile, R: DiskFiles<F> + Clock + Eprint>(
     ensures calls { IfOk result (λ r. IsOnlyRead (calls_of r.1)) }
     ensures some_calls { IfErr result (λ e. IfSome e.disk (λ disk. IsReadAtMost e.fault (calls_of disk))) }
     ensures kinds { IfErr result (λ e. IsOfOpening name.now e.fault) }
-    ensures none { IfErr result (λ e. e.disk ≡ None → IsOfMaking name.now e.fault) }
+    ensures none { IfErr result (λ e. e.disk ≡ None → IsOfTaking name.now e.fault) }
 {
     let disk = adopt_disk(rt, name)?;
     let counted = CountedDisk::new(disk, tally);

@@ -1,4 +1,4 @@
-//! A reader, a writer and a disk that pass each call on, and count what went through.
+//! A reader, a writer and two disks that pass each call on, and count what went through.
 ghost use Rattle.std.specs.Prelude.{◌≡◌};
 
 use crate::Tally;
@@ -6,6 +6,7 @@ use sector_disk::{Disk, DiskError};
 use std::io;
 use std::io::{Read, Write};
 use std::rt::Clock;
+use std::sync::atomic::{AtomicU64, Ordering};
 
 /// A reader whose lines are counted as they are read.
 #[derive(Drop)]
@@ -113,6 +114,57 @@ impl<'t, 'r, D: Disk, C: Clock + Eprint> Disk for CountedDisk<'t, 'r, D, C> {
     }
 
     fn sync(&mut self) -> Result<(), DiskError> {
+        self.disk.sync()
+    }
+
+    fn failures(&self) -> u64 {
+        self.disk.failures()
+    }
+}
+
+/// A disk whose syncs are counted.
+#[derive(Drop)]
+pub struct SyncedDisk<'s, D> {
+    disk: D,
+    syncs: &'s AtomicU64,
+}
+
+impl<'s, D: Disk> SyncedDisk<'s, D> {
+    /// This disk. `syncs` counts its syncs, also those that fail.
+    pub fn new(disk: D, syncs: &'s AtomicU64) -> Self
+        ensures { result.disk ≡ disk }
+    {
+        SyncedDisk { disk, syncs }
+    }
+
+    /// The disk within, as the calls left it.
+    pub fn into_inner(self) -> D
+        ensures { result ≡ self.entry.disk }
+    {
+        let SyncedDisk { disk, syncs: _ } = self;
+        disk
+    }
+}
+
+impl<'s, D: Disk> Disk for SyncedDisk<'s, D> {
+    ghost view = { λ synced. D.view synced.disk };
+
+    ghost sound = { λ synced honest. D.sound synced.disk honest };
+
+    fn sectors(&self) -> u64 {
+        self.disk.sectors()
+    }
+
+    fn read(&mut self, at: u64, bytes: &mut [u8; 512]) -> Result<(), DiskError> {
+        self.disk.read(at, bytes)
+    }
+
+    fn write(&mut self, at: u64, bytes: &[u8; 512]) -> Result<(), DiskError> {
+        self.disk.write(at, bytes)
+    }
+
+    fn sync(&mut self) -> Result<(), DiskError> {
+        self.syncs.fetch_add(1, Ordering::SeqCst);
         self.disk.sync()
     }
 

@@ -4,7 +4,7 @@ ghost use Rattle.sector_disk.specs.Numbers.{Byte, Sectors};
 ghost use Rattle.file_disk.specs.Disk.{IsNew};
 ghost use Rattle.file_disk.specs.declared.disk.FileDisk.{FileDisk};
 ghost use Rattle.file_disk.specs.declared.fault.FileFault.{FileFault};
-ghost use Rattle.file_disk.specs.declared.fault.FileFault.TheVariants.{NotOpened};
+ghost use Rattle.file_disk.specs.declared.fault.FileFault.TheVariants.{KeepsNothing, NotOpened};
 ghost use Rattle.file_disk.specs.declared.fault.OpenCause.TheVariants.{Exists};
 ghost use Rattle.served_disk.specs.Calls.{IsBlankOf};
 
@@ -32,6 +32,7 @@ pub trait DiskFiles<F: SectorFile> {
     /// Makes a file of this name, of so many sectors of zeros, which are durable.
     fn create(&self, name: &str, sectors: u64) -> Result<FileDisk<F>, FileFault>
         ensures gives { created self.now name.now sectors result }
+        ensures kind { IsErrOf result KeepsNothing → ⊥ }
         ensures blank { IfOk result (IsBlankOf sectors) };
 }
 

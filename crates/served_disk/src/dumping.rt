@@ -5,9 +5,11 @@ ghost use Rattle.sector_disk.specs.declared.record.Call.TheVariants.{Sync};
 ghost use Rattle.file_disk.specs.Disk.{IsNew, calls_of, file_view};
 ghost use Rattle.recovery.specs.declared.fault.StoreFault.{StoreFault};
 ghost use Rattle.recovery.specs.declared.fault.StoreFault.TheVariants.{DiskFault};
+ghost use Rattle.register_text.specs.Dump.{register_bytes};
+ghost use Rattle.register_text.specs.Passing.{IsUnwritten, IsWritten};
 ghost use Rattle.served_disk.specs.Calls.{IsOnlyRead, IsReadAtMost};
 ghost use Rattle.served_disk.specs.Dumping.{IsDumped, IsDumpedBy, IsOfDiskDump, IsOfDumping, IsUndumped, ReportsDump};
-ghost use Rattle.served_disk.specs.Making.{IsOfMaking};
+ghost use Rattle.served_disk.specs.Making.{IsOfTaking};
 ghost use Rattle.served_disk.specs.Named.{IsRefused, OnDisk};
 
 use crate::opening::adopt_disk;
@@ -16,10 +18,9 @@ use centre_core::Register;
 use centre_core::laws::registers;
 use file_disk::{FileDisk, SectorFile};
 use recovery::{Store, StoreFault};
-use register_text::{DumpFault, write_register};
+use register_text::{DumpFault, TextSink, write_register};
 use sector_disk::Disk;
 use std::alloc::{Allocator, Global};
-use std::io::Write;
 
 /// Why the register on a disk was not dumped.
 #[derive(Clone, Copy, Debug, PartialEq, Eq)]
@@ -31,12 +32,14 @@ pub enum DiskDumpFault {
 }
 
 /// Writes the text of a register.
-fn dump<A: Allocator + Clone, B: Allocator + Clone, W: Write>(
+pub(crate) fn dump<A: Allocator + Clone, B: Allocator + Clone, W: TextSink>(
     alloc: &A,
     register: &Register<B>,
     out: &mut W,
 ) -> Result<(), DumpFault>
-    ensures { OnOk result (IsDumped (W.contents out.old) (W.contents out.new) register.now) }
+    ensures dumped { OnOk result (IsDumped (W.contents out.old) (W.contents out.new) register.now) }
+    ensures written { OnOk result (IsWritten W.took W.flushed (register_bytes register.now) out.old out.new) }
+    ensures unwritten { IfErr result (IsUnwritten W.took W.failed (register_bytes register.now) out.old out.new) }
 {
     registers(register);
     write_register(alloc, out, register)
@@ -47,15 +50,15 @@ fn dump<A: Allocator + Clone, B: Allocator + Clone, W: Write>(
 ///
 /// # Errors
 /// `Opening` for a fault of what is on the disk, the device if it has failed, and out of memory, which hides no fault that was
-/// read: nothing is written. `Writing` if memory
-/// runs out afterwards or the writer fails: some of the text may be written.
-pub fn dump_on<A: Allocator + Copy + Drop, D: Disk, W: Write>(
+/// read: nothing is written. `Writing` only if the writer failed, or if memory ran out and it did not: a prefix of the text is written.
+pub fn dump_on<A: Allocator + Copy + Drop, D: Disk, W: TextSink>(
     alloc: A,
     disk: D,
     out: &mut W,
 ) -> Result<D, (DiskDumpFault, D)>
-    ensures dumped { IfOk result (λ d. IsDumpedBy A (D.view disk).honest (D.view disk).reads (W.contents out.old) (W.contents out.new)) }
-    ensures refused { IfErr result (λ e. IsUndumped A (D.view disk) (D.view e.1) e.0) }
+    ensures dumped { IfOk result (λ d. IsDumpedBy A (D.view disk).honest (D.view disk).reads (W.contents out.old) (W.contents out.new)
+        (λ text. IsWritten W.took W.flushed text out.old out.new)) }
+    ensures refused { IfErr result (λ e. IsUndumped A (λ text. IsUnwritten W.took W.failed text out.old out.new) (D.view disk) (D.view e.1) e.0) }
     ensures unwritten { IfErr result (λ e. (fault : StoreFault) → e.0 ≡ DiskDumpFault.Opening fault → out.new ≡ out.old) }
     ensures calls { IfOk result (λ d. before_reads (D.view d).calls ≡ (D.view disk).calls ++ Sync ∷ []) }
     ensures some_calls { IfErr result (λ e. (before_reads (D.view e.1).calls ≡ (D.view disk).calls ++ Sync ∷ [])
@@ -78,21 +81,23 @@ pub fn dump_on<A: Allocator + Copy + Drop, D: Disk, W: Write>(
 /// returned.
 ///
 /// # Errors
-/// Those of `open_disk`. `File` with `-` if the writer fails, and `Memory`.
-pub fn dump_disk<'a, F: SectorFile, R: DiskFiles<F>, W: Write>(
+/// Those of `open_disk`. `File` with `-` only if the writer failed, and `Memory` only if it did not.
+pub fn dump_disk<'a, F: SectorFile, R: DiskFiles<F>, W: TextSink>(
     rt: &R,
     alloc: Global,
     name: &'a str,
     out: &mut W,
 ) -> Result<FileDisk<F>, Refused<'a, F>>
     ensures dumped { IfOk result (λ d. OnDisk (R.adopted rt.now name.now) IsNew
-        (λ disk. IsDumpedBy Global (file_view F.view disk).honest (file_view F.view disk).reads (W.contents out.old) (W.contents out.new))) }
+        (λ disk. IsDumpedBy Global (file_view F.view disk).honest (file_view F.view disk).reads (W.contents out.old) (W.contents out.new)
+        (λ text. IsWritten W.took W.flushed text out.old out.new))) }
     ensures refused { IfErr result (λ e. IsRefused (R.adopted rt.now name.now) IsNew name.now
-        (λ old new. ReportsDump (IsUndumped Global (file_view F.view old) (file_view F.view new))) e.fault e.disk) }
+        (λ old new. ReportsDump (IsUndumped Global (λ text. IsUnwritten W.took W.failed text out.old out.new) (file_view F.view old) (file_view F.view new)))
+        e.fault e.disk) }
     ensures calls { IfOk result (λ disk. IsOnlyRead (calls_of disk)) }
     ensures some_calls { IfErr result (λ e. IfSome e.disk (λ disk. IsReadAtMost e.fault (calls_of disk))) }
     ensures kinds { IfErr result (λ e. IsOfDiskDump name.now e.fault) }
-    ensures none { IfErr result (λ e. e.disk ≡ None → IsOfMaking name.now e.fault) }
+    ensures none { IfErr result (λ e. e.disk ≡ None → IsOfTaking name.now e.fault) }
 {
     let disk = adopt_disk(rt, name)?;
     match dump_on(alloc, disk, out) {

@@ -66,6 +66,7 @@ impl<'a> Fault<'a> {
             FileFault::NotOpened(cause) => Fault::File(name, cause),
             FileFault::DiskFault => Fault::Device,
             FileFault::NoMemory => Fault::Memory,
+            FileFault::KeepsNothing => Fault::Unformatted,
         }
     }
 

@@ -10,9 +10,11 @@ mod doorbell;
 mod dumping;
 mod fault;
 mod files;
+pub mod laws;
 mod loading;
 mod losses;
 mod making;
+mod notice;
 mod opening;
 mod pace;
 mod pairs;
@@ -20,6 +22,7 @@ mod port_names;
 mod printing;
 mod progress;
 mod refused;
+mod rest;
 mod running;
 mod service_watch;
 mod serving;
@@ -30,7 +33,7 @@ mod tally;
 mod watched;
 
 pub use checking::{CheckReport, check_disk, check_on, print_checked};
-pub use counted::{CountedDisk, CountedReader, CountedWriter};
+pub use counted::{CountedDisk, CountedReader, CountedWriter, SyncedDisk};
 pub use disk_files::DiskFiles;
 pub use dumping::{DiskDumpFault, dump_disk, dump_on};
 pub use fault::Fault;
@@ -42,15 +45,16 @@ pub use making::{format_disk, layout_of, make_disk_with};
 pub use opening::open_disk;
 pub use pairs::{
     Pair, PairPort, PairReader, PairWriter, check_pairs, inputs_of, name_ended, names_of, pairs_of,
-    ports_of,
+    ports_of, stream_pair,
 };
 pub use port_names::PortNames;
 pub use printing::{print_formatted, print_loaded, print_station};
 pub use progress::Progress;
 pub use refused::Refused;
+pub use rest::{RestReport, rest_disk, rest_on};
 pub use running::serve_stations;
-pub use service_watch::ServiceWatch;
-pub use serving::{Run, Served, TURNS, outcome, print_stations, service_outcome};
+pub use service_watch::{Manner, ServiceWatch};
+pub use serving::{Served, TURNS, outcome, print_stations, service_outcome};
 pub use showing::{Shown, show};
 pub use showing_disk::{show_disk, show_on};
 pub use tally::Tally;

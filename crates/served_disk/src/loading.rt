@@ -4,21 +4,22 @@ ghost use Rattle.centre_core.specs.State.{IsState, State};
 ghost use Rattle.centre_core.specs.StateRanges.{StateInRange};
 ghost use Rattle.image_rows.specs.Rows.{rows_of};
 ghost use Rattle.register_text.specs.Dump.{IsAll, register_bytes, text_read};
+ghost use Rattle.register_text.specs.Passing.{IsUnread, IsWhole};
 ghost use Rattle.register_text.specs.Text.{IsUnder};
-ghost use Rattle.served_disk.specs.Loading.{IsOfLoading, IsReadAs};
+ghost use Rattle.served_disk.specs.Loading.{IsOfLoading, IsReadAs, ReportsLoad};
 
 use crate::Fault;
 use centre_core::Register;
-use register_text::{laws, read_register};
+use register_text::{TextSource, laws, read_register};
 use registration::Limits;
 use std::alloc::Global;
-use std::io::Read;
 
 /// The register that a dump makes under these limits. The dump is read to its end; `name` is that of its file.
 ///
 /// # Errors
-/// `DumpLine` for the first line that can't be taken, and `DumpCut` if the dump is cut; `File` if it can't be read, and `Memory`.
-pub fn load_register<'a, R: Read>(
+/// `DumpLine` for the first line that can't be taken, and `DumpCut` if the dump is cut. `File` only if the reader failed or gave no end, and
+/// `Memory` only before its end; both only if no line is at fault in what was read, for `Memory` before the last 65,536 bytes of it.
+pub fn load_register<'a, R: TextSource>(
     alloc: Global,
     limits: Limits,
     reader: &mut R,
@@ -32,6 +33,10 @@ pub fn load_register<'a, R: Read>(
         → IfOk result (λ register. IsUnder limits (rows_of 1 s) register) }
     ensures refused { IfErr result (λ fault. IfSome (R.remaining reader.old) (λ text. IsReadAs (text_read limits text) fault)) }
     ensures kinds { IfErr result (IsOfLoading name.now) }
+
+    // Over any reader: what it gave, and why no more.
+    ensures whole { IfOk result (λ register. (text : List ℕ) × IsWhole R.gave R.ended reader.old reader.new text × (text_read limits text ≡ Ok register)) }
+    ensures unread { IfErr result (ReportsLoad (IsUnread R.gave R.ended R.failed (text_read limits) reader.old reader.new) name.now) }
 {
     laws::register_bytes();
     match read_register(alloc, limits, reader) {

@@ -1,10 +1,12 @@
 //! The pairs of files of a service: what a station's lines are read from, and what its answers are written to.
-ghost use Rattle.std.specs.Prelude.{◌≡◌, ◌++◌, ◌∷◌, [], false, true, IfOk, IfErr, OnErr, OnOk, length};
+ghost use Rattle.std.specs.Prelude.{◌≡◌, ◌++◌, ◌∷◌, [], false, not, true, IfOk, IfErr, OnErr, OnOk, length};
 ghost use Rattle.std.specs.Io.{ReadsAtMost, WritesAtMost};
 ghost use Rattle.settings.specs.Naming.{texts};
 ghost use Rattle.served_disk.specs.Files.{has_half, inputs_in, is_half_left_out, is_left_out};
 ghost use Rattle.served_disk.specs.declared.fault.Fault.TheVariants.{HalfLeftOut, Memory};
+ghost use Rattle.served_disk.specs.declared.notice.Notice.TheVariants.{Started};
 
+use crate::notice::Notice;
 use crate::{Fault, PortNames};
 use stations::Port;
 use std::alloc::Global;
@@ -17,8 +19,6 @@ use std::sync::{Mutex, Wait};
 /// The files of a pair, as far as they are open.
 #[derive(Drop)]
 struct OpenFiles {
-    /// Whether `open` was called.
-    is_begun: bool,
     /// Whether IN was opened, but OUT could not be.
     lacks_output: bool,
     input: Option<File>,
@@ -29,7 +29,6 @@ impl OpenFiles {
     /// Opens IN to read, and then OUT to append to it. OUT is made if it is missing, for its owner alone. Opening a FIFO waits for
     /// its other end.
     fn open(&mut self, host: HostRuntime, input: &str, output: &str) {
-        self.is_begun = true;
         let Ok(input) = File::open(&host, input) else {
             return;
         };
@@ -85,27 +84,62 @@ fn is_half_left_out(input: &str, output: &str) -> bool
     (input == "-" || output == "-") && !is_left_out(input, output)
 }
 
-/// The files IN and OUT of a station. Its reader opens both before its first line, unless the station is left out. Only the station's thread uses them until that
-/// thread has ended, so nobody waits for the lock.
+/// The files IN and OUT of a station. Its reader opens both before its first line, unless the station is left out. Only the station's
+/// thread uses them until that thread has ended, so nobody waits for the lock.
 #[derive(Drop)]
 pub struct Pair<'a> {
     input: &'a str,
     output: &'a str,
+    /// Whether the station has lines: it is not left out.
+    is_served: bool,
     files: Mutex<OpenFiles>,
 }
 
 impl<'a> Pair<'a> {
     /// The files of these names, not opened yet.
-    pub fn new(input: &'a str, output: &'a str) -> Pair<'a> {
+    pub fn new(input: &'a str, output: &'a str) -> Pair<'a>
+        ensures { result.is_served ≡ not (is_left_out input.now output.now) }
+    {
+        Pair::named(input, output, !is_left_out(input, output))
+    }
+
+    /// The standard streams, which faults name `-`. They are open.
+    pub fn of_streams() -> Pair<'a>
+        ensures { result.is_served ≡ true }
+    {
+        Pair::named("-", "-", true)
+    }
+
+    fn named(input: &'a str, output: &'a str, is_served: bool) -> Pair<'a>
+        ensures { result.is_served ≡ is_served }
+    {
         Pair {
             input,
             output,
+            is_served,
             files: Mutex::new(OpenFiles {
-                is_begun: false,
                 lacks_output: false,
                 input: None,
                 output: None,
             }),
+        }
+    }
+
+    /// Whether the station has lines.
+    pub(crate) fn is_served(&self) -> bool
+        ensures { result ≡ self.now.is_served }
+    {
+        self.is_served
+    }
+
+    /// That the lines of this station are served.
+    pub(crate) fn started(&self, station: u64) -> Notice<'a>
+        ensures { result ≡ Started station self.now.input self.now.output }
+    {
+        Notice::Started {
+            station,
+            input: self.input,
+            output: self.output,
         }
     }
 
@@ -122,16 +156,20 @@ impl<'a> Pair<'a> {
         }
     }
 
-    /// Reads from IN. The first call opens the pair.
-    fn read<R: Wait>(&self, rt: &R, host: HostRuntime, buffer: &mut [u8]) -> io::Result<usize>
+    /// Opens both files. Returns whether both are open.
+    fn open<R: Wait>(&self, rt: &R, host: HostRuntime) -> bool {
+        let mut guard = self.files.lock(rt);
+        let files = &mut *guard;
+        files.open(host, self.input, self.output);
+        files.input.is_some()
+    }
+
+    /// Reads from IN.
+    fn read<R: Wait>(&self, rt: &R, buffer: &mut [u8]) -> io::Result<usize>
         ensures { ReadsAtMost result buffer.new }
     {
         let mut guard = self.files.lock(rt);
-        let files = &mut *guard;
-        if !files.is_begun {
-            files.open(host, self.input, self.output);
-        }
-        files.read(buffer)
+        guard.read(buffer)
     }
 
     /// Writes to OUT.
@@ -156,9 +194,28 @@ pub struct PairReader<'p, 'a, R> {
     /// What opens the files.
     host: HostRuntime,
     pair: &'p Pair<'a>,
+    /// The station's number.
+    station: u64,
+    /// Whether it is reported that the station's lines are served.
+    log: bool,
+    /// Whether the pair was opened.
+    is_begun: bool,
 }
 
-impl<'p, 'a, R: Wait> Read for PairReader<'p, 'a, R> {
+impl<'p, 'a, R: Eprint + Wait> PairReader<'p, 'a, R> {
+    /// Opens the pair, and reports that if a log is wanted. A report that fails changes nothing.
+    fn begin(&self) {
+        let is_open = self.pair.open(self.rt, self.host);
+        if is_open && self.log {
+            let _ = self
+                .pair
+                .started(self.station)
+                .report(self.rt, self.host.alloc());
+        }
+    }
+}
+
+impl<'p, 'a, R: Eprint + Wait> Read for PairReader<'p, 'a, R> {
     ghost use Rattle.served_disk.specs.Files.{known_of};
 
     ghost remaining = { λ reader. known_of reader.pair.now.input.now reader.pair.now.output.now };
@@ -167,7 +224,11 @@ impl<'p, 'a, R: Wait> Read for PairReader<'p, 'a, R> {
         if is_left_out(self.pair.input, self.pair.output) {
             return Ok(0);
         }
-        self.pair.read(self.rt, self.host, buffer)
+        if !self.is_begun {
+            self.is_begun = true;
+            self.begin();
+        }
+        self.pair.read(self.rt, buffer)
     }
 }
 
@@ -212,6 +273,21 @@ pub fn pairs_of<'a>(alloc: Global, named: &[(&'a str, &'a str)]) -> Result<Vec<P
     for (input, output) in named {
         pairs.push_reserved(Pair::new(input, output));
     }
+    Ok(pairs)
+}
+
+/// The pair of standard input and standard output, as station 1's.
+///
+/// # Errors
+/// `Memory`.
+pub fn stream_pair<'a>(alloc: Global) -> Result<Vec<Pair<'a>>, Fault<'a>>
+    ensures all { IfOk result (λ pairs. length pairs.items ≡ 1) }
+    ensures refused { IfErr result (λ fault. fault ≡ Memory) }
+{
+    let Ok(mut pairs) = Vec::with_capacity(alloc, 1) else {
+        return Err(Fault::Memory);
+    };
+    pairs.push_reserved(Pair::of_streams());
     Ok(pairs)
 }
 
@@ -267,25 +343,33 @@ pub fn check_pairs<'a>(named: &[(&'a str, &'a str)]) -> Result<(), Fault<'a>>
     }
 }
 
-/// The ports of stations 1, 2 and so on.
+/// The ports of stations 1, 2 and so on. With a log each reports when its files are open.
 ///
 /// # Errors
 /// `Memory`.
-pub fn ports_of<'p, 'a, R: Wait>(
+pub fn ports_of<'p, 'a, R: Eprint + Wait>(
     rt: &'p R,
     host: HostRuntime,
-    alloc: Global,
     pairs: &'p [Pair<'a>],
+    log: bool,
 ) -> Result<Vec<PairPort<'p, 'a, R>>, Fault<'a>>
     ensures all { IfOk result (λ ports. length ports.items ≡ length pairs.now) }
     ensures refused { IfErr result (λ fault. fault ≡ Memory) }
 {
-    let Ok(mut ports) = Vec::with_capacity(alloc, pairs.len()) else {
+    let Ok(mut ports) = Vec::with_capacity(host.alloc(), pairs.len()) else {
         return Err(Fault::Memory);
     };
-    for pair in pairs {
+    for index in 0..pairs.len() {
+        let pair = &pairs[index];
         ports.push_reserved(Port {
-            reader: PairReader { rt, host, pair },
+            reader: PairReader {
+                rt,
+                host,
+                pair,
+                station: index as u64 + 1,
+                log,
+                is_begun: false,
+            },
             writer: PairWriter { rt, pair },
         });
     }

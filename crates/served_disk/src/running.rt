@@ -12,6 +12,7 @@ use snapshots::Centre;
 use stations::{ManyTerms, Port, Watch, run_many};
 use std::alloc::Global;
 use std::io::{Read, Write};
+use std::rt::Clock;
 use std::sync::Wait;
 use std::thread::Threads;
 
@@ -33,7 +34,7 @@ pub fn serve_stations<
     'a,
     J: Centre + Send + Sync,
     D: Disk + Drop,
-    R: Threads + Wait + Sync,
+    R: Threads + Wait + Clock + Sync,
     I: Read + Send + Drop,
     O: Write + Send + Drop,
     V: Watch + Sync,
@@ -43,10 +44,10 @@ pub fn serve_stations<
     store: Store<Global, D>,
     ports: Vec<Port<I, O>>,
     watch: &V,
-) -> Result<Served<O>, Fault<'a>>
+) -> Result<Served<I, O>, Fault<'a>>
     requires sound { store.broken ≡ false }
     requires centre { (terms.log.seen.book ≡ J.book) × (store.register ≡ J.base) }
-    ensures served { IfOk result (AreServed D.view J J.base terms.entry.orders I.remaining O.contents (store_view store) ports.items) }
+    ensures served { IfOk result (AreServed D.view J J.base terms.entry.orders terms.entry.turns I.remaining O.contents (store_view store) ports.items) }
     ensures all { IfOk result (λ served. length served.runs.items ≡ length ports.items) }
     ensures fault { IfErr result (λ fault. fault ≡ Memory) }
 {

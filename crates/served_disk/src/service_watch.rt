@@ -1,16 +1,28 @@
 //! What a service does as its stations end, and when the device fails.
-ghost use Rattle.std.specs.Prelude.{◌≡◌};
+ghost use Rattle.std.specs.Prelude.{◌≡◌, option_map};
+ghost use Rattle.served_disk.specs.Notices.{pair_of, served_in, started_in};
+ghost use Rattle.served_disk.specs.declared.notice.Notice.TheVariants.{Serving};
 
 use crate::doorbell::Doorbell;
+use crate::notice::Notice;
 use crate::{Fault, Pair};
 use console::{Ran, RunFault};
 use flusher::Gate;
 use registration::Station;
 use stations::Watch;
 use std::alloc::Global;
-use std::str;
-use std::sync::Wait;
+use std::process::ExitCode;
 use std::sync::atomic::{AtomicU64, Ordering};
+use std::sync::{OnceLock, Wait};
+
+/// What a service does besides its work.
+#[derive(Clone, Copy)]
+pub struct Manner<'f> {
+    /// Whether it reports the starts and ends of its stations.
+    pub log: bool,
+    /// Where it puts the exit status when the device has failed; the program then ends. `None`: it goes on.
+    pub finish: Option<&'f OnceLock<ExitCode>>,
+}
 
 /// What a service does as its stations end: it closes the files of each, and reports its fault on standard error. A device that
 /// fails is reported once, at the first command that this refuses. Threads may share it.
@@ -19,31 +31,75 @@ pub struct ServiceWatch<'r, 'p, 'a, R> {
     rt: &'r R,
     alloc: Global,
     pairs: &'p [Pair<'a>],
+    manner: Manner<'r>,
     doorbell: Doorbell,
     /// 1 if it was reported that the device has failed, else 0.
     told: AtomicU64,
 }
 
-/// Writes the line of a fault to standard error, by one write if it is no longer than 1,024 bytes. `None` if that failed, or if
-/// memory ran out.
-fn report<R: Eprint>(rt: &R, alloc: Global, fault: &Fault<'_>) -> Option<()> {
-    let mut line = Vec::new(alloc);
-    fault.print(&mut line).ok()?;
-    let text = str::from_utf8(&line).ok()?;
-    eprint!(rt; "{text}").ok()
+/// How many of these stations have lines.
+fn served_in(pairs: &[Pair<'_>]) -> usize
+    ensures { result ≡ served_in pairs.now }
+{
+    pairs.iter().filter(|pair| pair.is_served()).count()
 }
 
 impl<'r, 'p, 'a, R: Eprint + Wait> ServiceWatch<'r, 'p, 'a, R> {
     /// For the stations of these pairs. None has ended yet.
-    pub fn new(rt: &'r R, alloc: Global, pairs: &'p [Pair<'a>]) -> Self
+    pub fn new(rt: &'r R, alloc: Global, pairs: &'p [Pair<'a>], manner: Manner<'r>) -> Self
         ensures { result.pairs ≡ pairs.entry }
     {
         ServiceWatch {
             rt,
             alloc,
             pairs,
+            manner,
             doorbell: Doorbell::new(None),
             told: AtomicU64::new(0),
+        }
+    }
+
+    /// The service begins, over a register that has accepted so many commands. It is reported if a log is wanted.
+    pub fn begin(&self, count: u64) {
+        self.note(&self.serving(count));
+    }
+
+    // That its stations are served, over a register that has accepted so many commands.
+    fn serving(&self, count: u64) -> Notice<'a>
+        ensures { result ≡ Serving (served_in self.now.pairs.now) count }
+    {
+        Notice::Serving {
+            stations: served_in(self.pairs) as u64,
+            count,
+        }
+    }
+
+    /// The lines of this station are served, whose files are open already. It is reported if a log is wanted.
+    pub fn start(&self, station: Station) {
+        if let Some(notice) = self.started(station) {
+            self.note(&notice);
+        }
+    }
+
+    // That the lines of this station are served.
+    fn started(&self, station: Station) -> Option<Notice<'a>>
+        ensures { result ≡ started_in self.now.pairs.now station }
+    {
+        let pair = self.pair_of(station)?;
+        Some(pair.started(u64::from(station.number())))
+    }
+
+    /// Reports this if a log is wanted. A report that fails changes nothing.
+    fn note(&self, notice: &Notice<'_>) {
+        if self.manner.log {
+            let _ = notice.report(self.rt, self.alloc);
+        }
+    }
+
+    /// Lets the program end, with the status of a failed device, if that is wanted.
+    fn end_program(&self) {
+        if let Some(finish) = self.manner.finish {
+            let _ = finish.set(self.rt, ExitCode::from(Fault::Device.status()));
         }
     }
 
@@ -65,9 +121,15 @@ impl<'r, 'p, 'a, R: Eprint + Wait> ServiceWatch<'r, 'p, 'a, R> {
     }
 
     /// The pair of a station.
-    fn pair_of(&self, station: Station) -> Option<&Pair<'a>> {
-        let place = usize::from(station.number()).checked_sub(1)?;
-        self.pairs.get(place)
+    fn pair_of(&self, station: Station) -> Option<&Pair<'a>>
+        ensures { option_map (λ pair. pair.now) result ≡ pair_of self.now.pairs.now station }
+    {
+        let number = usize::from(station.number());
+        if 0 < number {
+            self.pairs.get(number - 1)
+        } else {
+            None
+        }
     }
 }
 
@@ -88,28 +150,36 @@ impl<'r, 'p, 'a, R: Eprint + Wait> Watch for ServiceWatch<'r, 'p, 'a, R> {
 
     fn answered(&self, _station: Station, _is_accepted: bool) {}
 
-    /// Reports that the device has failed, unless that was reported. If the report fails, the next call tries again.
+    /// Reports that the device has failed, unless that was reported, and lets the program end if that is wanted. If the report fails,
+    /// the next call tries again.
     fn failed(&self, _station: Station) {
         if self.told.swap(1, Ordering::SeqCst) == 1 {
             return;
         }
-        if report(self.rt, self.alloc, &Fault::Device).is_none() {
+        if Notice::Fault(Fault::Device)
+            .report(self.rt, self.alloc)
+            .is_none()
+        {
             self.told.store(0, Ordering::SeqCst);
         }
+        self.end_program();
     }
 
-    /// Closes the station's files, and reports a fault. A report that fails changes nothing.
+    /// Closes the station's files, reports a fault, and then, if a log is wanted, that the station has ended. A report that fails
+    /// changes nothing.
     fn ended(&self, station: Station, ran: &Result<Ran, RunFault>) {
         let Some(pair) = self.pair_of(station) else {
             return;
         };
         pair.close(self.rt);
         if let Err(fault) = ran {
-            let _ = report(
-                self.rt,
-                self.alloc,
-                &Fault::of_run(*fault, &pair.names(self.rt)),
-            );
+            let fault = Fault::of_run(*fault, &pair.names(self.rt));
+            let _ = Notice::Fault(fault).report(self.rt, self.alloc);
+        }
+        if pair.is_served() {
+            self.note(&Notice::Ended {
+                station: u64::from(station.number()),
+            });
         }
     }
 }

@@ -7,29 +7,27 @@ ghost use Rattle.served_disk.specs.Stations.{HasEnded, HasServiceEnded, HaveEnde
 use crate::{Fault, PortNames, print_station};
 use console::{Ran, RunFault};
 use registration::Station;
+use stations::StationRun;
 use std::io;
 use std::io::Write;
 
 /// The most calls of a reader. A text that has no end by then is refused.
 pub const TURNS: u32 = u32::MAX;
 
-/// What a station's answers were written to, and how its run has ended.
-pub type Run<O> = (O, Result<Ran, RunFault>);
-
 /// How the runs of stations have ended.
 #[derive(Drop)]
-pub struct Served<O: Drop> {
+pub struct Served<I, O: Drop> {
     /// The run of each station, in order.
-    pub runs: Vec<Run<O>>,
+    pub runs: Vec<StationRun<I, O>>,
     /// Whether the disk failed.
     pub is_broken: bool,
 }
 
 /// Writes the answers of stations 1, 2 and so on, each after its number and the name of its file.
-pub fn print_stations<W: Write>(
+pub fn print_stations<I, W: Write>(
     out: &mut W,
     names: &[PortNames<'_>],
-    runs: &[Run<Vec<u8>>],
+    runs: &[StationRun<I, Vec<u8>>],
 ) -> io::Result<()>
     requires same { length names.now ≡ length runs.now }
     requires few { length runs.now ≤ 64 }
@@ -37,7 +35,7 @@ pub fn print_stations<W: Write>(
 {
     for index in 0..runs.len() {
         let station = Station::new(index as u16 + 1);
-        print_station(out, station, names[index].input, &runs[index].0)?;
+        print_station(out, station, names[index].input, &runs[index].writer)?;
     }
     Ok(())
 }
@@ -53,20 +51,26 @@ fn end_of<'a>(names: &PortNames<'a>, ended: &Result<Ran, RunFault>) -> Result<bo
 }
 
 /// How all runs have ended: with the first fault, in order of station; else with whether an answer reported trouble.
-fn ended<'a, O>(names: &[PortNames<'a>], runs: &[Run<O>]) -> Result<bool, Fault<'a>>
+fn ended<'a, I, O: Drop>(
+    names: &[PortNames<'a>],
+    runs: &[StationRun<I, O>],
+) -> Result<bool, Fault<'a>>
     requires same { length names.now ≡ length runs.now }
     ensures { HaveEnded names.now runs.now result }
 {
     let mut troubled = false;
     for index in 0..runs.len() {
-        troubled |= end_of(&names[index], &runs[index].1)?;
+        troubled |= end_of(&names[index], &runs[index].ran)?;
     }
     Ok(troubled)
 }
 
 /// How a run of stations has ended: with a disk that failed; else with the first fault, in order of station; else with whether an
 /// answer reported trouble.
-pub fn outcome<'a, O: Drop>(names: &[PortNames<'a>], served: &Served<O>) -> Result<bool, Fault<'a>>
+pub fn outcome<'a, I, O: Drop>(
+    names: &[PortNames<'a>],
+    served: &Served<I, O>,
+) -> Result<bool, Fault<'a>>
     requires same { length names.now ≡ length served.now.runs.items }
     ensures { MatchBool served.now.is_broken (result ≡ Err Device) (HaveEnded names.now served.now.runs.items result) }
 {
@@ -88,9 +92,9 @@ fn end_status(ended: &Result<bool, Fault<'_>>) -> u8
 
 /// How a service ends, after its stations have reported their faults: with a disk that failed; else with the exit status of the
 /// first fault, in order of station; else with 1 if an answer reported trouble, or 0.
-pub fn service_outcome<'a, O: Drop>(
+pub fn service_outcome<'a, I, O: Drop>(
     names: &[PortNames<'a>],
-    served: &Served<O>,
+    served: &Served<I, O>,
 ) -> Result<u8, Fault<'a>>
     requires same { length names.now ≡ length served.now.runs.items }
     ensures { MatchBool served.now.is_broken (result ≡ Err Device) (HasServiceEnded names.now served.now.runs.items result) }

@@ -37,7 +37,7 @@ fn answer_query<A: Allocator + Copy, B: Allocator + Clone>(
 }
 
 /// The answer to the only line, or the listing that it asks for. A command is no query, and so a bad line; so are a mark and the
-/// question for the station, which ask no register.
+/// questions for the station and the service, which ask no register. Only a command takes memory.
 fn answer<A: Allocator + Copy, B: Allocator + Clone>(
     alloc: A,
     register: &Register<B>,
@@ -46,16 +46,16 @@ fn answer<A: Allocator + Copy, B: Allocator + Clone>(
     ensures { MatchResult result (λ answer. ShowsReading register.now (reading 1 line.now) answer × HasNoListing A (reading 1 line.now))
         (λ listing. reading {A = A} 1 line.now ≡ Print listing) }
 {
-    let said = parse_line(alloc, Station::new(1), line);
+    let Ok(said) = parse_line(alloc, Station::new(1), line) else {
+        return Ok(Answer::Bad(1, LineFault::Syntax));
+    };
     match &said {
-        Ok(Line::Silent) => Ok(Answer::Quiet),
-        Ok(Line::Bad(fault)) => Ok(Answer::Bad(1, *fault)),
-        Ok(Line::Ask(query)) => Ok(answer_query(alloc, register, query)),
-        Ok(Line::Print(listing)) => Err(*listing),
-        Ok(Line::Mark(_) | Line::OwnStation(_) | Line::Forbidden(_)) => {
-            Ok(Answer::Bad(1, LineFault::Syntax))
-        }
-        Ok(Line::Apply(_)) | Err(_) => Ok(Answer::Bad(1, LineFault::Syntax)),
+        Line::Silent => Ok(Answer::Quiet),
+        Line::Bad(fault) => Ok(Answer::Bad(1, *fault)),
+        Line::Ask(query) => Ok(answer_query(alloc, register, query)),
+        Line::Print(listing) => Err(*listing),
+        Line::Apply(_) | Line::Mark(_) | Line::OwnStation(_) | Line::Service | Line::Forbidden(_) =>
+            Ok(Answer::Bad(1, LineFault::Syntax)),
     }
 }
 

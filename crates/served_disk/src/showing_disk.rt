@@ -8,7 +8,7 @@ ghost use Rattle.recovery.specs.Figures.{figures_at};
 ghost use Rattle.recovery.specs.Lives.{view_of};
 ghost use Rattle.recovery.specs.Opening.{IsOfOpening as IsOfStoreOpening};
 ghost use Rattle.served_disk.specs.Calls.{IsOnlyRead, IsReadAtMost};
-ghost use Rattle.served_disk.specs.Making.{IsOfMaking, IsOfOpening};
+ghost use Rattle.served_disk.specs.Making.{IsOfOpening, IsOfTaking};
 ghost use Rattle.served_disk.specs.Named.{IsRefused, OnDisk};
 ghost use Rattle.served_disk.specs.Refusals.{IsUnshown, Reports};
 ghost use Rattle.served_disk.specs.Showing.{IsShownBy, IsShownFor};
@@ -79,7 +79,7 @@ pub fn show_disk<'a, F: SectorFile, R: DiskFiles<F>>(
     ensures calls { IfOk result (λ r. IsOnlyRead (calls_of r.1)) }
     ensures some_calls { IfErr result (λ e. IfSome e.disk (λ disk. IsReadAtMost e.fault (calls_of disk))) }
     ensures kinds { IfErr result (λ e. IsOfOpening name.now e.fault) }
-    ensures none { IfErr result (λ e. e.disk ≡ None → IsOfMaking name.now e.fault) }
+    ensures none { IfErr result (λ e. e.disk ≡ None → IsOfTaking name.now e.fault) }
 {
     let disk = adopt_disk(rt, name)?;
     match show_on(alloc, disk, line) {

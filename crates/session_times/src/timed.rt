@@ -3,22 +3,25 @@ ghost use Rattle.std.specs.Prelude.{◌≡◌, ◌≤◌, false, length, IfSome}
 ghost use Rattle.flusher.specs.Served.{IsSettled};
 ghost use Rattle.flusher.specs.View.{view_of};
 
-use crate::together::{TOGETHER, accepted_together, update};
+use crate::beside::{Load, Work, serve};
+use crate::disks::{disk_in_file, disk_in_memory, ruled};
+use crate::together::update;
 use centre_core::Command;
-use flusher::{Answer, Flusher, Gate, Session, open_centre};
-use live_centre::{Task, WatchedDisk, end_all, opened, serve_beside, with_rule, worked_disk};
+use flusher::{Flusher, Session, open_centre};
 use recovery::{Outcome, Store, StoreFault};
 use registration::Station;
+use sector_disk::Disk;
 use snapshots::{Centre, NewLog};
 use std::alloc::Global;
+use std::fs;
+use std::fs::{File, Files};
 use std::marker::Brand;
 use std::rt::Clock;
 use std::sync::Wait;
-use std::sync::atomic::{AtomicU64, Ordering};
 use std::thread::Threads;
 use std::time::{Duration, Instant};
 
-// How often all is measured.
+// How often all is measured on disks in memory.
 const ROUNDS: u32 = 5;
 
 // How many commands each of 64 sessions submits, how many each of 8, and how many a single session.
@@ -28,104 +31,19 @@ const EACH_OF_EIGHT: u32 = 4_000;
 
 const ALONE: u32 = 5_000;
 
-// The sectors of a half of the journal, and more calls than the disk gets.
-const JOURNAL: u32 = 32_768;
-
-const CALLS: usize = 60_000;
-
-type Kept = Store<Global, WatchedDisk>;
-
-// How many sessions there are, how many commands each submits, and whether one at a time.
-#[derive(Clone, Copy)]
-struct Work {
-    sessions: usize,
-    each: u32,
-    singly: bool,
-}
-
-// What sessions do, and how many commands were accepted.
-#[derive(Drop)]
-struct Load {
-    alloc: Global,
-    work: Work,
-    accepted: AtomicU64,
-}
-
-impl Load {
-    fn count(&self, accepted: u64) {
-        self.accepted.fetch_add(accepted, Ordering::SeqCst);
-    }
-
-    // Submits the commands of a session one at a time.
-    fn submit_singly<J: Centre, R: Wait>(&self, rt: &R, session: &mut Session<J>) {
-        for k in 0..self.work.each {
-            if is_accepted(rt, self.alloc, session, k.saturating_add(2)) {
-                self.count(1);
-            }
-        }
-    }
-
-    // Submits them several at a time.
-    fn submit_together<J: Centre, R: Wait>(&self, rt: &R, session: &mut Session<J>) {
-        for k in 0..self.work.each / TOGETHER {
-            let first = k.saturating_mul(TOGETHER).saturating_add(2);
-            match accepted_together(rt, self.alloc, session, first) {
-                Some(accepted) => self.count(accepted),
-                None => return,
-            }
-        }
-    }
-}
-
-fn is_accepted<J: Centre, R: Wait>(
-    rt: &R,
-    alloc: Global,
-    session: &mut Session<J>,
-    sequence: u32,
-) -> bool {
-    let Some(command) = update(alloc, session.station(), sequence) else {
-        return false;
-    };
-    matches!(session.submit(rt, command), Answer::Accepted { .. })
-}
-
-impl Gate for Load {
-    fn before_commit(&self, _round: u64, _taken: usize) {}
-}
-
-impl<J: Centre> Task<J> for Load {
-    fn before_round(&self) {}
-
-    fn act<R: Wait>(&self, rt: &R, session: &mut Session<J>) {
-        if self.work.singly {
-            self.submit_singly(rt, session);
-        } else {
-            self.submit_together(rt, session);
-        }
-    }
-}
-
-// A store in which the rule of the network is set.
-fn ruled(alloc: Global) -> Option<Kept>
-    ensures { IfSome result (λ store. store.broken ≡ false) }
-{
-    let disk = with_rule(alloc, worked_disk(alloc, 64, JOURNAL, CALLS)?)?;
-    opened(alloc, disk)
-}
-
 // A centre over this store, with this many sessions.
-fn centre<J: Centre, R: Wait>(
+fn centre<J: Centre, D: Disk + Drop, R: Wait>(
     rt: &R,
     alloc: Global,
     log: NewLog,
-    store: Kept,
+    store: Store<Global, D>,
     sessions: usize,
-) -> Option<(Flusher<J, WatchedDisk>, Vec<Session<J>>)>
+) -> Option<(Flusher<J, D>, Vec<Session<J>>)>
     requires sound { store.broken ≡ false }
     requires centre { (log.seen.book ≡ J.book) × (store.register ≡ J.base) }
     ensures settled { IfSome result (λ r. IsSettled J.base (view_of r.0)) }
 {
-    match open_centre::<J, WatchedDisk, R>(rt, alloc, log, store, sessions) {
+    match open_centre::<J, D, R>(rt, alloc, log, store, sessions) {
         Ok(both) => Some(both),
         Err(fault) => {
             drop(fault);
@@ -135,47 +53,41 @@ fn centre<J: Centre, R: Wait>(
 }
 
 // How long it takes the sessions until all their commands are answered.
-fn served<J: Centre + Send + Sync, R: Threads + Wait + Clock + Sync>(
+fn served<J: Centre + Send + Sync, D: Disk + Drop, R: Threads + Wait + Clock + Sync>(
     rt: &R,
     log: NewLog,
-    store: Kept,
+    store: Store<Global, D>,
     load: &Load,
 ) -> Option<Duration>
     requires sound { store.broken ≡ false }
     requires centre { (log.seen.book ≡ J.book) × (store.register ≡ J.base) }
 {
     let count = load.work.sessions;
-    let Some((mut flusher, mut sessions)) = centre::<J, R>(rt, load.alloc, log, store, count) else {
+    let Some((mut flusher, sessions)) = centre::<J, D, R>(rt, load.alloc, log, store, count) else {
         return None;
     };
     let start = Instant::now(rt);
-    let done = serve_beside(rt, &mut flusher, &mut sessions, load);
+    serve(rt, load, &mut flusher, sessions);
     let took = match start {
         Ok(start) => start.elapsed(rt).ok(),
         Err(_) => None,
     };
-    drop(end_all(rt, flusher, sessions));
-    if done { took } else { None }
+    drop(flusher.abandon(rt));
+    took
 }
 
-// The same with a new store. `None` if a command was not accepted.
-fn served_once<R: Threads + Wait + Clock + Sync>(
+// The same of sessions with this work. `None` if a command was not accepted.
+fn served_once<D: Disk + Drop, R: Threads + Wait + Clock + Sync>(
     rt: &R,
     alloc: Global,
+    store: Store<Global, D>,
     work: Work,
-) -> Option<Duration> {
-    let load = Load {
-        alloc,
-        work,
-        accepted: AtomicU64::new(0),
-    };
-    let took = served::<Brand, R>(rt, NewLog::new(), ruled(alloc)?, &load)?;
-    let all = (work.sessions as u64).saturating_mul(u64::from(work.each));
-    if load.accepted.load(Ordering::SeqCst) == all {
-        Some(took)
-    } else {
-        None
-    }
+) -> Option<Duration>
+    requires sound { store.broken ≡ false }
+{
+    let load = Load::new(alloc, work);
+    let took = served::<Brand, D, R>(rt, NewLog::new(), store, &load)?;
+    if load.is_done() { Some(took) } else { None }
 }
 
 // A batch of `size` commands, one of each of the first stations, each with this sequence.
@@ -202,9 +114,9 @@ fn borrowed<'a>(
 }
 
 // Commits the commands, after a checkpoint if there is no room for them.
-fn commit(
+fn commit<D: Disk>(
     alloc: Global,
-    store: &mut Kept,
+    store: &mut Store<Global, D>,
     commands: &[&Command<Global>],
 ) -> Result<Vec<Outcome<Global>>, StoreFault>
     requires { length commands.now ≤ 64 }
@@ -219,7 +131,12 @@ fn commit(
 }
 
 // Makes a batch and commits it; whether it was committed.
-fn is_committed(alloc: Global, store: &mut Kept, size: u16, sequence: u32) -> Option<()> {
+fn is_committed<D: Disk>(
+    alloc: Global,
+    store: &mut Store<Global, D>,
+    size: u16,
+    sequence: u32,
+) -> Option<()> {
     let commands = batch(alloc, size, sequence)?;
     let list = borrowed(alloc, &commands)?;
     if list.len() > 64 {
@@ -230,10 +147,10 @@ fn is_committed(alloc: Global, store: &mut Kept, size: u16, sequence: u32) -> Op
 }
 
 // How long it takes one thread to make and to commit this many batches.
-fn committed<R: Clock>(
+fn committed<D: Disk, R: Clock>(
     rt: &R,
     alloc: Global,
-    store: &mut Kept,
+    store: &mut Store<Global, D>,
     size: u16,
     batches: u32,
 ) -> Option<Duration> {
@@ -245,15 +162,21 @@ fn committed<R: Clock>(
 }
 
 // Whether the register has accepted this many commands.
-fn has_accepted(store: &Kept, count: u64) -> bool {
+fn has_accepted<D: Disk>(store: &Store<Global, D>, count: u64) -> bool {
     match store.register() {
         Some(register) => register.count() == count,
         None => false,
     }
 }
 
-fn committed_once<R: Clock>(rt: &R, alloc: Global, size: u16, batches: u32) -> Option<Duration> {
-    let mut store = ruled(alloc)?;
+fn committed_once<D: Disk + Drop, R: Clock>(
+    rt: &R,
+    alloc: Global,
+    store: Store<Global, D>,
+    size: u16,
+    batches: u32,
+) -> Option<Duration> {
+    let mut store = store;
     let took = committed(rt, alloc, &mut store, size, batches);
     let whole = has_accepted(&store, 1 + u64::from(size) * u64::from(batches));
     drop(store);
@@ -280,39 +203,95 @@ fn singly(sessions: usize, each: u32) -> Work {
     }
 }
 
-// Prints a line for 64 sessions, for 8 that submit 8 at a time, for batches of 64, for a single session and for single commits;
-// whether all were measured.
-fn is_measured<R: Threads + Wait + Clock + Print + Sync>(rt: &R, alloc: Global) -> bool {
-    let eight = Work {
+// The work of 8 sessions that submit 8 at a time.
+fn eight() -> Work {
+    Work {
         sessions: 8,
         each: EACH_OF_EIGHT,
         singly: false,
-    };
-    is_reported(
-        rt,
-        "sessions",
-        64 * EACH,
-        served_once(rt, alloc, singly(64, EACH)),
-    ) && is_reported(
-        rt,
-        "eight",
-        8 * EACH_OF_EIGHT,
-        served_once(rt, alloc, eight),
-    ) && is_reported(
-        rt,
-        "batches",
-        64 * EACH,
-        committed_once(rt, alloc, 64, EACH),
-    ) && is_reported(rt, "alone", ALONE, served_once(rt, alloc, singly(1, ALONE)))
-        && is_reported(rt, "singly", ALONE, committed_once(rt, alloc, 1, ALONE))
+    }
 }
 
-/// Prints these lines in each round; the exit status.
-pub fn report<R: Threads + Wait + Clock + Print + Sync>(rt: &R, alloc: Global) -> u8 {
+// How long the sessions take on a disk in memory.
+fn served_in_memory<R: Threads + Wait + Clock + Sync>(
+    rt: &R,
+    alloc: Global,
+    work: Work,
+) -> Option<Duration> {
+    served_once(rt, alloc, ruled(alloc, disk_in_memory(alloc)?)?, work)
+}
+
+// How long the batches take on a disk in memory.
+fn committed_in_memory<R: Clock>(
+    rt: &R,
+    alloc: Global,
+    size: u16,
+    batches: u32,
+) -> Option<Duration> {
+    let store = ruled(alloc, disk_in_memory(alloc)?)?;
+    committed_once(rt, alloc, store, size, batches)
+}
+
+// How long the sessions take on a disk in a new file, which is removed.
+fn served_in_file<R: Files<File = File> + Threads + Wait + Clock + Sync>(
+    rt: &R,
+    alloc: Global,
+    name: &str,
+    work: Work,
+) -> Option<Duration> {
+    let store = ruled(alloc, disk_in_file(rt, name)?)?;
+    let took = served_once(rt, alloc, store, work);
+    fs::remove_file(rt, name).ok()?;
+    took
+}
+
+// How long batches of 64 take on a disk in a new file, which is removed.
+fn committed_in_file<R: Files<File = File> + Clock>(
+    rt: &R,
+    alloc: Global,
+    name: &str,
+    batches: u32,
+) -> Option<Duration> {
+    let store = ruled(alloc, disk_in_file(rt, name)?)?;
+    let took = committed_once(rt, alloc, store, 64, batches);
+    fs::remove_file(rt, name).ok()?;
+    took
+}
+
+// Prints a line for 64 sessions, for 8 that submit 8 at a time, for batches of 64, for a single session and for single commits,
+// on disks in memory; whether all were measured.
+fn is_measured_in_memory<R: Threads + Wait + Clock + Print + Sync>(rt: &R, alloc: Global) -> bool {
+    let sessions = served_in_memory(rt, alloc, singly(64, EACH));
+    let together = served_in_memory(rt, alloc, eight());
+    let batches = committed_in_memory(rt, alloc, 64, EACH);
+    let alone = served_in_memory(rt, alloc, singly(1, ALONE));
+    let single = committed_in_memory(rt, alloc, 1, ALONE);
+    is_reported(rt, "sessions", 64 * EACH, sessions)
+        && is_reported(rt, "eight", 8 * EACH_OF_EIGHT, together)
+        && is_reported(rt, "batches", 64 * EACH, batches)
+        && is_reported(rt, "alone", ALONE, alone)
+        && is_reported(rt, "singly", ALONE, single)
+}
+
+/// Prints these lines in each round; whether all were measured.
+pub fn report_in_memory<R: Threads + Wait + Clock + Print + Sync>(rt: &R, alloc: Global) -> bool {
     for _ in 0..ROUNDS {
-        if !is_measured(rt, alloc) {
-            return 5;
+        if !is_measured_in_memory(rt, alloc) {
+            return false;
         }
     }
-    0
+    true
+}
+
+/// Prints a line for 8 sessions that submit 8 at a time and for batches of 64, once, on disks in a file of this name; whether
+/// both were measured. There may be no such file before.
+pub fn report_in_file<R: Files<File = File> + Threads + Wait + Clock + Print + Sync>(
+    rt: &R,
+    alloc: Global,
+    name: &str,
+) -> bool {
+    let together = served_in_file(rt, alloc, name, eight());
+    let batches = committed_in_file(rt, alloc, name, EACH);
+    is_reported(rt, "eight", 8 * EACH_OF_EIGHT, together)
+        && is_reported(rt, "batches", 64 * EACH, batches)
 }

@@ -1,4 +1,4 @@
-//! Commands that a session submits together.
+//! Commands that a session submits, one at a time or together.
 ghost use Rattle.std.specs.Prelude.{◌≡◌, All, IfSome, IsTrue};
 
 use centre_core::Command;
@@ -17,6 +17,19 @@ pub(crate) fn update(alloc: Global, station: Station, sequence: u32) -> Option<C
     ensures { IfSome result (λ command. command.station ≡ station) }
 {
     attach(alloc, station, sequence, u32::from(station.number()) % 16)
+}
+
+/// Submits the attach with this sequence; whether it was accepted.
+pub(crate) fn is_accepted<J: Centre, R: Wait>(
+    rt: &R,
+    alloc: Global,
+    session: &mut Session<J>,
+    sequence: u32,
+) -> bool {
+    let Some(command) = update(alloc, session.station(), sequence) else {
+        return false;
+    };
+    matches!(session.submit(rt, command), Answer::Accepted { .. })
 }
 
 // Attaches of this station's radio, the first one with this sequence.

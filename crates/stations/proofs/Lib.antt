@@ -4,6 +4,9 @@ pub mod Zipped
 pub mod Places
 pub mod Runs
 pub mod Lines
+pub mod Written
 pub mod Served
+mod RunLived
 pub mod Crossing
 pub mod Submissions
+pub mod Unkept

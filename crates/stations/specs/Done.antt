@@ -1,5 +1,5 @@
 -- What comes of the run of one station.
-use Rattle.std.specs.Prelude.{◌≡◌, List, [], ◌∷◌, ◌++◌, Option, Result}
+use Rattle.std.specs.Prelude.{◌≡◌, IsErrOf, List, [], ◌∷◌, ◌++◌, Option, Result}
 use Rattle.std.specs.declared.alloc.Global.{Global}
 use Rattle.identity.specs.Numbers.{Byte}
 use Rattle.crossbeam_channel.specs.Ends.{receives_on}
@@ -8,9 +8,13 @@ use Rattle.centre_core.specs.State.{State}
 use Rattle.station_queue.specs.Ends.{sending}
 use Rattle.station_queue.specs.declared.entry.Entry.TheVariants as entry
 use Rattle.console.specs.Reading.{Speaker}
+use Rattle.console.specs.Events.{read_by}
 use Rattle.console.specs.Runs.{IsRun}
+use Rattle.console.specs.Told.{EndsFor, GaveFirst, HasTaken, IsTold, reader_events, writer_events}
+use Rattle.console.specs.declared.passed.Passed.{Passed}
 use Rattle.console.specs.declared.running.Ran.{Ran}
 use Rattle.console.specs.declared.running.RunFault.{RunFault}
+use Rattle.console.specs.declared.running.RunFault.TheVariants.{NoMemory}
 use Rattle.flusher.specs.Sessions.{view_of}
 use Rattle.flusher.specs.Submitted.{SessionView}
 use Rattle.stations.specs.OfSession.{of_session}
@@ -32,17 +36,31 @@ module _ (J : Type 0) (base : State) where
       (record { speaker = speaker; world = record { station = speaker.station; view = s }; unread = unread; written = written })
       (record { result = ran; world = record { station = speaker.station; view = t }; written = after })
 
+  -- What was told in that run, whatever the reader and the writer are. Given is what passed in it: the bytes that were read are those that the
+  -- calls of its reader gave, and what was written after it was answered is what passed by its writer. If the bytes of the reader or of the
+  -- writer are known, these are the first of them, or follow them.
+  abbrev pub IsToldOf : {I : Type 0} → Speaker → Option (List Byte) → Option (List Byte) → Passed I → SessionView → SessionView → Option (List Byte) → Result Ran RunFault → Type 0
+  IsToldOf speaker unread written passed s t after ran =
+      GaveFirst unread (read_by (reader_events passed)) × HasTaken written (writer_events passed) after
+      × IsTold Global (of_session J base speaker.orders) speaker
+      (record { station = speaker.station; view = s }) (record { station = speaker.station; view = t }) (read_by (reader_events passed)) (writer_events passed) ran
+
   module _ {I O : Type 0} (unread : I → Option (List Byte)) (written : O → Option (List Byte)) where
     -- A session answered the lines of its port and then ended, and this came of it. `last` is the session after the run, which submitted no
     -- order in it if its station may give none; then it sent its end, and nothing else.
-    pub record EndsAs (job : Job J I O) (last : SessionView) (done : Done J O) : Type 0 where
-      pub run : IsRunOf (speaker_of job) (unread job.port.reader) (written job.port.writer) (view_of job.session) last (written done.writer) done.ran
+    pub record EndsAs (job : Job J I O) (last : SessionView) (done : Done J I O) : Type 0 where
+      pub run : IsRunOf (speaker_of job) (unread job.port.reader) (written job.port.writer) (view_of job.session) last (written done.run.writer) done.run.ran
+      pub told : IsToldOf (speaker_of job) (unread job.port.reader) (written job.port.writer) done.run.passed (view_of job.session) last (written done.run.writer) done.run.ran
+      -- why the run ended, by the calls of its reader and its writer
+      pub ends : EndsFor job.turns (reader_events done.run.passed) (writer_events done.run.passed) done.run.ran
       pub sender : done.ended.sender ≡ sending job.session.sender.queue job.session.sender.station (last.sent ++ entry.Ended job.session.sender.station ∷ [])
       pub received : received_of done.ended.receiver.pass ≡ last.received
       pub channel : receives_on done.ended.receiver.channel ≡ receives_on job.session.receiver.channel
       pub seen : done.ended.viewer ≡ last.seen
       pub submits : Submits job.orders job.session.sender.sent last.sent
+      -- if the run was out of memory, it did nothing
+      pub memory : IsErrOf done.run.ran NoMemory → last ≡ view_of job.session
 
     -- the same for some session after the run
-    abbrev pub IsDone : Job J I O → Done J O → Type 0
+    abbrev pub IsDone : Job J I O → Done J I O → Type 0
     IsDone job done = (last : SessionView) × EndsAs job last done

@@ -6,3 +6,4 @@ pub mod Done
 pub mod Flushed
 pub mod Lines
 pub mod Served
+pub mod Listings

@@ -4,6 +4,7 @@ use Rattle.std.specs.declared.alloc.Global.{Global}
 use Rattle.identity.specs.Numbers.{Byte}
 use Rattle.centre_core.specs.Asked.{Asked}
 use Rattle.centre_core.specs.State.{State}
+use Rattle.centre_core.specs.declared.reply.Reply.{Reply}
 use Rattle.console.specs.declared.answer.Answer.{Answer}
 use Rattle.console.specs.declared.answer.Answer.TheVariants as answer
 use Rattle.console.specs.declared.line.Line.{Line}
@@ -11,21 +12,32 @@ use Rattle.console.specs.declared.line.Line.TheVariants as line
 use Rattle.console.specs.Reading.{Speaker, heard}
 use Rattle.flusher.specs.Borne.{IsReplyAfter}
 
--- these commands bear out the answer to a command: `ok`, `kept` or `no`; an outage word needs nothing
-abbrev pub IsGivenAfter : State → List (Asked Global) → Asked Global → Answer Global → Type 0
-IsGivenAfter base commands c (answer.Replied sequence reply) = IsReplyAfter base commands c reply
-IsGivenAfter base commands c other = Unit {0}
+-- P holds of the reply in the answer to a command: `ok`, `kept` or `no`; an outage word needs nothing
+abbrev pub IsReplied : (Reply Global → Type 0) → Answer Global → Type 0
+IsReplied P (answer.Replied sequence reply) = P reply
+IsReplied P other = Unit {0}
 
--- the same of the answer to a line; only one to a command needs something
+-- the same of the command in a line and the reply in its answer; only an answer to a command needs something
+abbrev pub IsRepliedTo : (Asked Global → Reply Global → Type 0) → Line Global → Answer Global → Type 0
+IsRepliedTo P line.Silent given = Unit {0}
+IsRepliedTo P (line.Bad fault) given = Unit {0}
+IsRepliedTo P (line.Apply c) given = IsReplied (P c) given
+IsRepliedTo P (line.Ask q) given = Unit {0}
+IsRepliedTo P (line.Print l) given = Unit {0}
+IsRepliedTo P (line.Mark word) given = Unit {0}
+IsRepliedTo P (line.OwnStation station) given = Unit {0}
+IsRepliedTo P line.Service given = Unit {0}
+IsRepliedTo P (line.Forbidden sequence) given = Unit {0}
+
+-- the same of each of these lines and its answer
+abbrev pub AreRepliedTo : (Asked Global → Reply Global → Type 0) → Speaker → List (List Byte) → List (Answer Global) → Type 0
+AreRepliedTo P speaker [] answers = Unit {0}
+AreRepliedTo P speaker (text ∷ texts) [] = Unit {0}
+AreRepliedTo P speaker (text ∷ texts) (given ∷ answers) = IsRepliedTo P (heard speaker text) given × AreRepliedTo P speaker texts answers
+
+-- these commands bear out the answer to a line
 abbrev pub IsLineAfter : State → List (Asked Global) → Line Global → Answer Global → Type 0
-IsLineAfter base commands line.Silent given = Unit {0}
-IsLineAfter base commands (line.Bad fault) given = Unit {0}
-IsLineAfter base commands (line.Apply c) given = IsGivenAfter base commands c given
-IsLineAfter base commands (line.Ask q) given = Unit {0}
-IsLineAfter base commands (line.Print l) given = Unit {0}
-IsLineAfter base commands (line.Mark word) given = Unit {0}
-IsLineAfter base commands (line.OwnStation station) given = Unit {0}
-IsLineAfter base commands (line.Forbidden sequence) given = Unit {0}
+IsLineAfter base commands said given = IsRepliedTo (IsReplyAfter base commands) said given
 
 -- The answer to each line of a station is borne out by a prefix of the durable commands. No prefix is shorter than the one before it, nor
 -- than `low` commands.

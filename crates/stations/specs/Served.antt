@@ -1,21 +1,29 @@
 -- What a run of many stations does.
-use Rattle.std.specs.Prelude.{◌≡◌, ◌+◌, ◌≤◌, ℕ, List, [], length, Option, Result, slice_get, Some, true, false}
+use Rattle.std.specs.Prelude.{◌≡◌, ◌∷◌, ◌++◌, ◌+◌, ◌≤◌, ℕ, Contains, IsErrOf, List, [], length, Option, slice_get, Some, true, false}
 use Rattle.std.specs.List.{AllByRecursion}
+use Rattle.std.specs.Str.Lines.{lines}
 use Rattle.std.specs.declared.alloc.Global.{Global}
-use mathlib.Core.List.{Sublist}
+use mathlib.Core.List.{IsPrefix, Sublist}
 use Rattle.identity.specs.Numbers.{Byte}
 use Rattle.sector_disk.specs.Disk.{HasFailed, View}
 use Rattle.sector_disk.specs.Run.{LeavesOnly}
 use Rattle.centre_core.specs.Asked.{Asked}
 use Rattle.centre_core.specs.State.{State}
-use Rattle.recovery.specs.Lives.{StoreView, IsStoredIn}
+use Rattle.centre_core.specs.declared.reply.Reply.{Reply}
+use Rattle.recovery.specs.Lives.{HasBeenHonest, IsStoredIn, StoreView}
+use Rattle.console.specs.Answer.{texts}
 use Rattle.console.specs.Dialogue.{Dialogue}
+use Rattle.console.specs.Events.{OnlyAnswers, answered_by, read_by}
 use Rattle.console.specs.Reading.{Speaker}
+use Rattle.console.specs.Told.{EndsFor, GaveFirst, HasTaken, reader_events, writer_events}
 use Rattle.console.specs.declared.answer.Answer.{Answer}
-use Rattle.console.specs.declared.running.Ran.{Ran}
-use Rattle.console.specs.declared.running.RunFault.{RunFault}
+use Rattle.console.specs.declared.passed.Passed.{Passed}
+use Rattle.console.specs.declared.running.RunFault.TheVariants as fault
+use Rattle.station_queue.specs.declared.entry.Entry.TheVariants.{Ended}
+use Rattle.station_queue.specs.Entries.{entries_of}
+use Rattle.flusher.specs.Answerings.{answers_to}
 use Rattle.flusher.specs.Borne.{AreBorneOut}
-use Rattle.flusher.specs.Closed.{HasSeenOf}
+use Rattle.flusher.specs.Core.{IsCoreRun}
 use Rattle.flusher.specs.Opened.{IsNewFlusher}
 use Rattle.flusher.specs.Order.{of_station}
 use Rattle.flusher.specs.Lasting.{AreLasting}
@@ -23,19 +31,18 @@ use Rattle.flusher.specs.Runs.{AreRounds, HasTakenEnds}
 use Rattle.flusher.specs.Served.{IsSettled}
 use Rattle.flusher.specs.Shared.{commands_among}
 use Rattle.flusher.specs.Since.{WasDurable}
+use Rattle.flusher.specs.Stages.{Sent}
 use Rattle.flusher.specs.Stored.{IsStoredFor, OpensBetween}
 use Rattle.flusher.specs.Submitted.{SessionView}
 use Rattle.flusher.specs.View.{FlusherView}
-use Rattle.stations.specs.Done.{IsRunOf}
-use Rattle.stations.specs.Lines.{AreLinesBorneOut}
+use Rattle.flusher.specs.declared.decision.Decision.TheVariants.{Replied}
+use Rattle.stations.specs.Done.{IsRunOf, IsToldOf}
+use Rattle.stations.specs.Lines.{AreLinesBorneOut, AreRepliedTo}
 use Rattle.stations.specs.OfSession.{of_session}
 use Rattle.stations.specs.Orders.{has_order, may}
 use Rattle.stations.specs.declared.orders.Orders.{Orders}
 use Rattle.stations.specs.declared.port.Port.{Port}
-
--- what the run of a station gives: the writer of its port, and how it ended
-abbrev pub Run : Type 0 → Type 0
-Run O = O × Result Ran RunFault
+use Rattle.stations.specs.declared.station_run.StationRun.{StationRun}
 
 -- a session that has sent, received, seen and reached nothing
 abbrev pub new_view : SessionView
@@ -44,24 +51,52 @@ new_view = record { sent = []; received = []; seen = []; reached = 0 }
 -- What the session of a station has to do with the commands that are durable in the end. Each answer that it received is borne out by a
 -- prefix of them, and no such prefix is shorter than the one before it. So is the answer to each command in its lines, however they were
 -- answered to come to this session. Those of its own station are some of those that it sent, in the same order. What it has seen is a
--- prefix of them; only this has a way out.
-pub record IsBorneOut (J : Type 0) (base : State) (published durable : List (Asked Global)) (speaker : Speaker) (view : SessionView) : Type 0 where
+-- prefix of them.
+pub record IsBorneOut (J : Type 0) (base : State) (durable : List (Asked Global)) (speaker : Speaker) (view : SessionView) : Type 0 where
   pub answers : AreBorneOut base durable 0 view.received
   pub lines : (texts : List (List Byte)) (given : List (Answer Global))
       → Dialogue (of_session J base speaker.orders) speaker 0 (record { station = speaker.station; view = new_view }) texts given
       (record { station = speaker.station; view = view })
       → AreLinesBorneOut base durable speaker 0 texts given
   pub order : Sublist (of_station speaker.station durable) (commands_among view.sent)
-  pub seen : HasSeenOf published durable view.seen
+  pub seen : IsPrefix view.seen durable
 
 -- the station of a place, counted from 0, and whether it may give orders
 abbrev pub speaker_at : Orders → ℕ → Speaker
 speaker_at orders k = record { station = k + 1; orders = may orders (k + 1) }
 
--- Stations 1, 2 and so on were served over a store that was opened, each with its port. Given is which of them may give orders. This store and
--- these runs came of it.
-pub record HasServed {D I O : Type 0} (disk : D → View) (J : Type 0) (base : State) (orders : Orders) (unread : I → Option (List Byte)) (written : O → Option (List Byte))
-    (opened : StoreView Global D) (ports : List (Port I O)) (store : StoreView Global D) (runs : List (Run O)) : Type 0 where
+-- the session received this reply to this command, and it was durable before it was sent
+abbrev pub IsReplyDurable : {D : Type 0} → (D → View) → State → FlusherView D → List Sent → Asked Global → Reply Global → Type 0
+IsReplyDurable disk base last received c reply =
+    (x : Sent) × Contains received x × (x.command ≡ c) × (x.decision ≡ Replied reply) × WasDurable disk base last x
+
+-- What is on a station's OUT, and that it was on the disk before. Given are the session after the run, what passed in it, what its reader had
+-- left, and what its writer held before the run and holds after it.
+pub record IsWrittenAfter {D I : Type 0} (disk : D → View) (J : Type 0) (base : State) (last : FlusherView D) (speaker : Speaker) (view : SessionView)
+    (passed : Passed I) (unread before after : Option (List Byte)) : Type 0 where
+  -- the bytes that the calls of the reader gave are the first that it had left, if these are known
+  pub gave : GaveFirst unread (read_by (reader_events passed))
+  -- these are the first lines of them, and their answers, one for each
+  pub done : List (List Byte)
+  pub left : List (List Byte)
+  pub first : lines (read_by (reader_events passed)) ≡ done ++ left
+  pub answers : List (Answer Global)
+  pub each : Dialogue (of_session J base speaker.orders) speaker 0 (record { station = speaker.station; view = new_view }) done answers
+      (record { station = speaker.station; view = view })
+  -- at each moment of the run what was written is a prefix of what was answered before, in the texts of these answers. The writer holds it, if
+  -- its bytes are known
+  pub taken : HasTaken before (writer_events passed) after
+  pub only : OnlyAnswers (writer_events passed)
+  pub missing : List Byte
+  pub texts_are : texts answers ≡ answered_by (writer_events passed) ++ missing
+  -- each `ok`, `kept` and `no` to a command among these answers was durable before it was sent to the session: an image of any moment since
+  -- opens to a list of commands that bears it out
+  pub durable : AreRepliedTo (IsReplyDurable disk base last view.received) speaker done answers
+
+-- Stations 1, 2 and so on were served over a store that was opened, each with its port. Given are which of them may give orders, and the most
+-- calls of each reader. This store and these runs came of it.
+pub record HasServed {D I O : Type 0} (disk : D → View) (J : Type 0) (base : State) (orders : Orders) (turns : ℕ) (unread : I → Option (List Byte)) (written : O → Option (List Byte))
+    (opened : StoreView Global D) (ports : List (Port I O)) (store : StoreView Global D) (runs : List (StationRun I O)) : Type 0 where
   -- a new flusher of the store did rounds until it had taken the end of each session; what is durable then is a history, and the register
   -- of a sound store is what it makes of the base
   pub first : FlusherView D
@@ -69,10 +104,13 @@ pub record HasServed {D I O : Type 0} (disk : D → View) (J : Type 0) (base : S
   pub begun : IsNewFlusher (length ports) opened first
   pub rounds : AreRounds disk base first last
   pub ended : HasTakenEnds last
+  -- the rounds are one run of the core from its opening
+  pub core : IsCoreRun base (length ports) first last
   pub settled : IsSettled base last
   pub store_is : store ≡ last.store
-  -- if each image of the disk opens to the register at first, each opens to what is durable in the end, or to that and what was under
-  -- way when the disk failed
+  -- the register was on the disk at first, if the disk was honest when the store was opened, and is
+  pub kept : HasBeenHonest disk opened → IsStoredIn Global disk opened
+  -- if it was, each image of the disk opens to what is durable in the end, or to that and what was under way when the disk failed
   pub stored : (disk opened.disk).honest → IsStoredIn Global disk opened → IsStoredFor disk base last
   -- after a stop at any moment of the run the disk opens to what was durable at some moment of it
   pub any_moment : (disk opened.disk).honest → IsStoredIn Global disk opened
@@ -85,11 +123,29 @@ pub record HasServed {D I O : Type 0} (disk : D → View) (J : Type 0) (base : S
   -- one run for each port, in order of station: its lines were answered by a new session of its station, after what its writer held
   pub views : List SessionView
   pub count : (length runs ≡ length ports) × (length views ≡ length ports)
-  pub each : (k : ℕ) (port : Port I O) (run : Run O) (view : SessionView)
+  pub each : (k : ℕ) (port : Port I O) (run : StationRun I O) (view : SessionView)
       → slice_get ports k ≡ Some port → slice_get runs k ≡ Some run → slice_get views k ≡ Some view
-      → IsRunOf J base (speaker_at orders k) (unread port.reader) (written port.writer) new_view view (written run.0) run.1
+      → IsRunOf J base (speaker_at orders k) (unread port.reader) (written port.writer) new_view view (written run.writer) run.ran
+  -- why each run ended: its text came to its end, its reader failed or was called as often as it may be, its writer failed, or memory ran out
+  -- before the first call. Its reader and its writer failed in no other run
+  pub ends : (k : ℕ) (run : StationRun I O) → slice_get runs k ≡ Some run → EndsFor turns (reader_events run.passed) (writer_events run.passed) run.ran
+  -- a run that was out of memory came to no line: its session had sent, received and seen nothing
+  pub memory : (k : ℕ) (run : StationRun I O) (view : SessionView) → slice_get runs k ≡ Some run → slice_get views k ≡ Some view → IsErrOf run.ran fault.NoMemory → view ≡ new_view
+  -- the entries taken of each station are all that its session sent: its commands, and then its end
+  pub taken : (k : ℕ) (view : SessionView) → slice_get views k ≡ Some view → entries_of (k + 1) last.taker.taken ≡ view.sent ++ Ended (k + 1) ∷ []
+  -- the answers that its session received are the first of those that the run of the core gave to the station
+  pub received : (k : ℕ) (view : SessionView) → slice_get views k ≡ Some view → IsPrefix view.received (answers_to (k + 1) core.answers)
+  -- whatever the readers and the writers are: what was read and what was written is what their calls gave and took in this run, and what was
+  -- written was answered before
+  pub told : (k : ℕ) (port : Port I O) (run : StationRun I O) (view : SessionView)
+      → slice_get ports k ≡ Some port → slice_get runs k ≡ Some run → slice_get views k ≡ Some view
+      → IsToldOf J base (speaker_at orders k) (unread port.reader) (written port.writer) run.passed new_view view (written run.writer) run.ran
+  -- and each reply that was answered was on the disk before
+  pub synced : (disk opened.disk).honest → IsStoredIn Global disk opened → (k : ℕ) (port : Port I O) (run : StationRun I O) (view : SessionView)
+      → slice_get ports k ≡ Some port → slice_get runs k ≡ Some run → slice_get views k ≡ Some view
+      → IsWrittenAfter disk J base last (speaker_at orders k) view run.passed (unread port.reader) (written port.writer) (written run.writer)
   -- each session is borne out by what is durable
-  pub closed : (k : ℕ) (view : SessionView) → slice_get views k ≡ Some view → IsBorneOut J base last.published last.durable (speaker_at orders k) view
+  pub closed : (k : ℕ) (view : SessionView) → slice_get views k ≡ Some view → IsBorneOut J base last.durable (speaker_at orders k) view
   -- of a station that may give no orders, no command that its session submitted is an order, so none that is durable from it is
   pub orderless : (k : ℕ) (view : SessionView) → slice_get views k ≡ Some view → may orders (k + 1) ≡ false
       → (has_order (commands_among view.sent) ≡ false) × (has_order (of_station (k + 1) last.durable) ≡ false)

@@ -4,12 +4,17 @@
 
 mod job;
 mod listing;
+mod listing_gate;
+pub mod lives;
 mod many_stations;
 mod one_station;
 mod orders;
 mod port;
+mod round_gate;
 mod session_desk;
 mod station_job;
+mod station_run;
+mod station_text;
 mod station_threads;
 mod watch;
 
@@ -17,4 +22,6 @@ pub use many_stations::{Many, ManyTerms, run_many};
 pub use one_station::{Serving, run_session};
 pub use orders::Orders;
 pub use port::Port;
+pub use station_run::StationRun;
+pub use station_text::StationText;
 pub use watch::Watch;

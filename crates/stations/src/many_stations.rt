@@ -11,20 +11,24 @@ ghost use Rattle.stations.specs.Orders.{may};
 ghost use Rattle.stations.specs.Served.{HasServed};
 
 use crate::job::{Done, Job};
+use crate::listing_gate::ListingGate;
 use crate::orders::Orders;
 use crate::port::Port;
+use crate::round_gate::since;
 use crate::station_job::Shared;
+use crate::station_run::StationRun;
 use crate::station_threads::{Held, ThreadRoom, serve_all};
 use crate::watch::Watch;
-use console::{Ran, RunFault};
+use console::ServiceFigures;
 use flusher::{CentreFault, Ended, Flusher, Session, close, has_place, open_centre, register_of};
-use recovery::Store;
+use recovery::{Figures, Store};
 use sector_disk::Disk;
 use snapshots::{Centre, NewLog};
 use std::alloc::{AllocError, Global};
 use std::io::{Read, Write};
+use std::rt::Clock;
 use std::sync::Wait;
-use std::sync::atomic::AtomicU64;
+use std::sync::atomic::{AtomicU64, Ordering};
 use std::thread::Threads;
 
 /// What a run of many stations is given besides its store and its ports.
@@ -38,15 +42,24 @@ pub struct ManyTerms<'o> {
     pub turns: u32,
     /// The log of its centre.
     pub log: NewLog,
+    /// How often its disk was synced.
+    pub syncs: &'o AtomicU64,
 }
 
 /// What came of a run of many stations.
 #[derive(Drop)]
-pub struct Many<D: Disk, O: Drop> {
+pub struct Many<D: Disk, I, O: Drop> {
     /// The store. It is broken if the disk has failed.
     pub store: Store<Global, D>,
-    /// Of each station in order, the writer of its port, and how its run ended.
-    pub runs: Vec<(O, Result<Ran, RunFault>)>,
+    /// What came of the run of each station, in order.
+    pub runs: Vec<StationRun<I, O>>,
+}
+
+/// What each port is served under.
+#[derive(Drop)]
+struct PortTerms<'o> {
+    orders: Orders<'o>,
+    turns: u32,
 }
 
 /// Room for what comes of this many stations.
@@ -56,7 +69,7 @@ struct Room<J: Centre, I: Read + Drop, O: Write + Drop> {
     jobs: Vec<Job<J, I, O>>,
     threads: ThreadRoom<J, I, O>,
     ended: Vec<Ended<J>>,
-    runs: Vec<(O, Result<Ran, RunFault>)>,
+    runs: Vec<StationRun<I, O>>,
     pub ghost threads_room: { stations ≤ threads.stations },
     pub ghost new: { (jobs.items ≡ []) × (ended.items ≡ []) × (runs.items ≡ []) },
     pub ghost room: { (stations ≤ vec_capacity jobs) × (stations ≤ vec_capacity ended) × (stations ≤ vec_capacity runs) },
@@ -98,11 +111,11 @@ fn room_for<J: Centre, I: Read + Drop, O: Write + Drop>(
     })
 }
 
-// Each session with its port, in order, and whether its station may give orders.
+// Each session with its port, in order, whether its station may give orders, and the most calls of its reader.
 fn jobs_of<J: Centre, I: Read + Drop, O: Write + Drop>(
     sessions: Vec<Session<J>>,
     ports: Vec<Port<I, O>>,
-    orders: Orders<'_>,
+    terms: PortTerms<'_>,
     mut jobs: Vec<Job<J, I, O>>,
 ) -> Vec<Job<J, I, O>>
     requires count { length sessions.items ≡ length ports.items }
@@ -110,7 +123,8 @@ fn jobs_of<J: Centre, I: Read + Drop, O: Write + Drop>(
     requires room { vec_len sessions ≤ vec_capacity jobs }
     ensures sessions { map (λ job. job.session) result.items ≡ sessions.items }
     ensures ports { map (λ job. job.port) result.items ≡ ports.items }
-    ensures orders { All (λ job. job.orders ≡ may orders.entry job.session.sender.station) result.items }
+    ensures orders { All (λ job. job.orders ≡ may terms.entry.orders job.session.sender.station) result.items }
+    ensures turns { All (λ job. job.turns ≡ terms.entry.turns) result.items }
     ensures count { vec_len result ≡ vec_len sessions }
 {
     let mut ports = ports.into_iter();
@@ -118,35 +132,32 @@ fn jobs_of<J: Centre, I: Read + Drop, O: Write + Drop>(
         let Some(port) = ports.next() else {
             unreachable!()
         };
-        let may_order = orders.may(session.station());
+        let may_order = terms.orders.may(session.station());
         jobs.push_reserved(Job {
             session,
             orders: may_order,
+            turns: terms.turns,
             port,
         });
     }
     jobs
 }
 
-// The ended sessions, and what their runs gave, each in order.
-fn split_done<J: Centre, O: Drop>(
-    done: Vec<Done<J, O>>,
+// The ended sessions, and what came of their runs, each in order.
+fn split_done<J: Centre, I, O: Drop>(
+    done: Vec<Done<J, I, O>>,
     mut ended: Vec<Ended<J>>,
-    mut runs: Vec<(O, Result<Ran, RunFault>)>,
-) -> (Vec<Ended<J>>, Vec<(O, Result<Ran, RunFault>)>)
+    mut runs: Vec<StationRun<I, O>>,
+) -> (Vec<Ended<J>>, Vec<StationRun<I, O>>)
     requires new { (ended.items ≡ []) × (runs.items ≡ []) }
     requires room { (vec_len done ≤ vec_capacity ended) × (vec_len done ≤ vec_capacity runs) }
     ensures ended { result.0.items ≡ map (λ d. d.ended) done.items }
-    ensures runs { result.1.items ≡ map (λ d. (d.writer, d.ran)) done.items }
+    ensures runs { result.1.items ≡ map (λ d. d.run) done.items }
 {
     for one in done {
-        let Done {
-            ended: end,
-            writer,
-            ran,
-        } = one;
+        let Done { ended: end, run } = one;
         ended.push_reserved(end);
-        runs.push_reserved((writer, ran));
+        runs.push_reserved(run);
     }
     (ended, runs)
 }
@@ -176,7 +187,7 @@ fn store_of<J: Centre, D: Disk, R: Wait>(
 fn serve_opened<
     J: Centre + Send + Sync,
     D: Disk + Drop,
-    R: Threads + Wait + Sync,
+    R: Threads + Wait + Clock + Sync,
     I: Read + Send + Drop,
     O: Write + Send + Drop,
     V: Watch + Sync,
@@ -184,15 +195,16 @@ fn serve_opened<
     shared: &Shared<R, V>,
     opened: (Flusher<J, D>, Vec<Session<J>>),
     ports: Vec<Port<I, O>>,
-    orders: Orders<'_>,
+    terms: PortTerms<'_>,
     room: Room<J, I, O>,
-) -> Many<D, O>
+) -> Many<D, I, O>
     requires settled { IsSettled J.base (view_of opened.0) }
     requires flusher { IsNewFlusher (vec_len ports) (view_of opened.0).store (view_of opened.0) }
     requires sound { (view_of opened.0).store.broken ≡ false }
     requires sessions { AreNewSessions (view_of opened.0).taker.queue (view_of opened.0).senders opened.1.items }
     requires room { room.stations ≡ vec_len ports }
-    ensures { HasServed D.view J J.base orders.entry I.remaining O.contents (view_of opened.0).store ports.items (store_view result.store) result.runs.items }
+    ensures { HasServed D.view J J.base terms.entry.orders terms.entry.turns I.remaining O.contents
+        (view_of opened.0).store ports.items (store_view result.store) result.runs.items }
 {
     let (flusher, sessions) = opened;
     let Room {
@@ -202,12 +214,33 @@ fn serve_opened<
         ended,
         runs,
     } = room;
-    let jobs = jobs_of(sessions, ports, orders, jobs);
+    let jobs = jobs_of(sessions, ports, terms, jobs);
     let rt = shared.rt;
     let (held, done) = serve_all(shared, Held { flusher, rt }, jobs, threads);
     let (ended, runs) = split_done(done, ended, runs);
     let store = store_of(rt, held.into_flusher(), ended);
     Many { store, runs }
+}
+
+// The figures of a store that is not broken.
+fn figures_of<D: Disk>(store: &Store<Global, D>) -> Figures
+    requires { store.now.broken ≡ false }
+{
+    let Some(figures) = store.figures() else {
+        unreachable!()
+    };
+    figures
+}
+
+// The figures of a service of this many stations that begins.
+fn service_of(
+    alloc: Global,
+    stations: usize,
+    start: &Figures,
+    syncs: &AtomicU64,
+) -> Result<ServiceFigures, AllocError> {
+    let syncs = syncs.load(Ordering::SeqCst);
+    ServiceFigures::new(alloc, stations, &since(start, start, syncs))
 }
 
 /// Serves the ports as stations 1, 2 and so on over a store that is not broken. Each is served in a thread of its own, by a session of
@@ -221,7 +254,7 @@ fn serve_opened<
 pub fn run_many<
     J: Centre + Send + Sync,
     D: Disk + Drop,
-    R: Threads + Wait + Sync,
+    R: Threads + Wait + Clock + Sync,
     I: Read + Send + Drop,
     O: Write + Send + Drop,
     V: Watch + Sync,
@@ -231,12 +264,12 @@ pub fn run_many<
     store: Store<Global, D>,
     ports: Vec<Port<I, O>>,
     watch: &V,
-) -> Result<Many<D, O>, (CentreFault, Store<Global, D>)>
+) -> Result<Many<D, I, O>, (CentreFault, Store<Global, D>)>
     requires sound { store.broken ≡ false }
     requires centre { (terms.log.seen.book ≡ J.book) × (store.register ≡ J.base) }
 
-    // How each station's lines were answered, and what became of the store. A station that may give no orders gave none.
-    ensures served { IfOk result (λ many. HasServed D.view J J.base terms.entry.orders I.remaining O.contents
+    // How each station's lines were answered and why its run ended, and what became of the store. A station that may give no orders gave none.
+    ensures served { IfOk result (λ many. HasServed D.view J J.base terms.entry.orders terms.entry.turns I.remaining O.contents
         (store_view store) ports.items (store_view many.store) many.runs.items) }
 
     // Which fault comes, and that the store comes back as it was.
@@ -253,7 +286,12 @@ pub fn run_many<
         orders,
         turns,
         log,
+        syncs,
     } = terms;
+    let start = figures_of(&store);
+    let Ok(service) = service_of(alloc, stations, &start, syncs) else {
+        return Err((CentreFault::NoMemory, store));
+    };
     let Ok(room) = room_for(alloc, stations) else {
         return Err((CentreFault::NoMemory, store));
     };
@@ -263,10 +301,14 @@ pub fn run_many<
                 rt,
                 watch,
                 alloc,
-                turns,
                 refused: AtomicU64::new(0),
+                gate: ListingGate::new(stations),
+                service,
+                syncs,
+                start,
             };
-            Ok(serve_opened(&shared, opened, ports, orders, room))
+            let terms = PortTerms { orders, turns };
+            Ok(serve_opened(&shared, opened, ports, terms, room))
         }
         Err(fault) => Err(fault),
     }

@@ -2,29 +2,36 @@
 ghost use Rattle.std.specs.Prelude.{◌≡◌, ◌⊎◌, ◌≤◌, ◌<◌, ◌+◌, IsErrOf, Some};
 ghost use mathlib.Core.List.{IsPrefix};
 ghost use Rattle.console.specs.Failures.{failures_reported};
+ghost use Rattle.console.specs.Told.{EndsSince, calls_of, events_of, streams_of};
 ghost use Rattle.flusher.specs.Sessions.{IsSameSession};
 ghost use Rattle.stations.specs.GoesOn.{GoesOn};
-ghost use Rattle.stations.specs.OneRun.{IsRunBy};
+ghost use Rattle.stations.specs.OneRun.{IsRunBy, IsToldBy};
 ghost use Rattle.stations.specs.Orders.{Submits};
 
 use crate::session_desk::{Began, SessionDesk};
+use crate::station_text::StationText;
 use crate::watch::Watch;
-use console::{Input, Output, Ran, RunFault, Terms, run_counted};
+use console::{Input, Output, Ran, RunFault, ServiceFigures, Terms, run_counted};
 use flusher::Session;
 use snapshots::Centre;
 use std::alloc::Global;
 use std::io::{Read, Write};
 use std::marker::Brand;
+use std::rt::Clock;
 use std::sync::Wait;
 use std::sync::ledger::Ledger;
 
 /// What the run of a station is given.
 #[derive(Clone, Copy)]
-pub struct Serving<'r, 'w, R, V> {
+pub struct Serving<'r, 'w, 't, R, V> {
     /// The runtime, which lets it wait.
     pub rt: &'r R,
     /// What is shown how it goes on.
     pub watch: &'w V,
+    /// The text of its listing, which counts until it is written.
+    pub text: &'t StationText<'t, 'r, R>,
+    /// The figures of the service.
+    pub service: &'t ServiceFigures,
     /// Where the memory for its lines, commands and answers comes from.
     pub alloc: Global,
     /// The most calls of its reader.
@@ -37,7 +44,7 @@ pub struct Serving<'r, 'w, R, V> {
 /// queue and channel. If the station may give no orders, none was submitted.
 pub fn run_session<
     J: Centre,
-    R: Wait,
+    R: Wait + Clock,
     V: Watch,
     I: Read,
     O: Write,
@@ -53,9 +60,15 @@ pub fn run_session<
     // How the lines were answered, and what the session is then.
     ensures answers { IsRunBy J J.base serving.now.orders session (I.remaining input.old.reader.now) (O.contents output.old.writer.now)
         result.1 result.0 (O.contents output.new.writer.now) }
+    // Over any reader and any writer: what was read, and what was written after it was answered.
+    ensures told { IsToldBy J J.base serving.now.orders session (streams_of I.remaining O.contents input.old output.old)
+        result.1 result.0 (streams_of I.remaining O.contents input.new output.new) }
     ensures same { IsSameSession session result.0 }
     ensures seen { IsPrefix session.viewer result.0.viewer }
     ensures submits { Submits serving.now.orders session.sender.sent result.0.sender.sent }
+
+    // Why it ended, by the calls of the reader and the writer.
+    ensures ends { EndsSince serving.now.turns (calls_of input.old) (calls_of input.new) (events_of output.old) (events_of output.new) result.1 }
 
     // How often the reader was called, and when each fault comes.
     ensures calls { input.new.steps.now ≤ input.old.steps.now + serving.now.turns }
@@ -78,7 +91,7 @@ pub fn run_session<
 fn run_begun<
     K: Began,
     J: Centre,
-    R: Wait,
+    R: Wait + Clock,
     V: Watch,
     I: Read,
     O: Write,
@@ -95,6 +108,9 @@ fn run_begun<
     requires orders { serving.now.orders ≡ K.may_order }
     ensures answers { IsRunBy J J.base serving.now.orders session (I.remaining input.old.reader.now) (O.contents output.old.writer.now)
         result.1 result.0 (O.contents output.new.writer.now) }
+    ensures told { IsToldBy J J.base serving.now.orders session (streams_of I.remaining O.contents input.old output.old)
+        result.1 result.0 (streams_of I.remaining O.contents input.new output.new) }
+    ensures ends { EndsSince serving.now.turns (calls_of input.old) (calls_of input.new) (events_of output.old) (events_of output.new) result.1 }
     ensures goes_on { GoesOn K.may_order K.began result.0 }
     ensures calls { input.new.steps.now ≤ input.old.steps.now + serving.now.turns }
     ensures read { IsErrOf result.1 RunFault.Read →
@@ -114,6 +130,6 @@ fn run_begun<
         turns: serving.turns,
     };
     let mut desk = SessionDesk::<K, J, R, V>::new(serving, session);
-    let ran = run_counted(terms, input, output, &mut desk);
+    let ran = run_counted(terms, serving.service, input, output, &mut desk);
     (desk.into_session(), ran)
 }

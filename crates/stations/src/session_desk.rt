@@ -12,8 +12,10 @@ ghost use Rattle.stations.specs.Orders.{is_allowed};
 
 use crate::listing::list;
 use crate::one_station::Serving;
+use crate::station_text::StationText;
 use crate::watch::Watch;
 use centre_core::{Body, Command, Query, QueryAnswer, Reply};
+use console::{ReplyCounts, ServiceFigures};
 use desk::{Desk, Outage};
 use flusher::{Answer, Session};
 use listings::Listing;
@@ -22,6 +24,7 @@ use registration::Station;
 use snapshots::{Centre, ReadFault};
 use std::alloc::Global;
 use std::marker::{Brand, Model, PhantomData};
+use std::rt::Clock;
 use std::sync::Wait;
 
 /// What a session was when its run began, and whether its station may give orders. A run picks them, so that contracts can say at its
@@ -47,16 +50,19 @@ impl Began for Brand {
 /// A station's session as a desk: it submits commands of that station, but no orders if the station may give none, and reads the
 /// register. Contracts model it as the session.
 #[derive(Drop)]
-pub(crate) struct SessionDesk<'r, 'w, K: Began, J: Centre, R: Wait, V: Watch> {
+pub(crate) struct SessionDesk<'r, 'w, 't, K: Began, J: Centre, R: Wait, V: Watch> {
     rt: &'r R,
     watch: &'w V,
+    text: &'t StationText<'t, 'r, R>,
+    service: &'t ServiceFigures,
     /// Whether the station may give orders.
     orders: bool,
     session: Session<J>,
     of: PhantomData<K>,
 }
 
-impl<'r, 'w, K: Began, J: Centre, R: Wait, V: Watch> Model for SessionDesk<'r, 'w, K, J, R, V> {
+impl<'r, 'w, 't, K: Began, J: Centre, R: Wait, V: Watch> Model
+    for SessionDesk<'r, 'w, 't, K, J, R, V> {
     ghost use Rattle.std.specs.Prelude.{◌≡◌};
     ghost use Rattle.flusher.specs.declared.session.Session.{Session};
     ghost use Rattle.stations.specs.GoesOn.{GoesOn};
@@ -68,12 +74,12 @@ impl<'r, 'w, K: Began, J: Centre, R: Wait, V: Watch> Model for SessionDesk<'r, '
     ghost invariant = { λ d. GoesOn K.may_order K.began d.session × (d.orders ≡ K.may_order) };
 }
 
-impl<'r, 'w, K: Began, J: Centre, R: Wait, V: Watch> SessionDesk<'r, 'w, K, J, R, V> {
+impl<'r, 'w, 't, K: Began, J: Centre, R: Wait, V: Watch> SessionDesk<'r, 'w, 't, K, J, R, V> {
     ghost use Rattle.std.specs.Prelude.{◌≡◌};
     ghost use Rattle.stations.specs.GoesOn.{GoesOn};
 
     /// This session as a desk. The watch is shown what it does.
-    pub(crate) fn new(serving: &Serving<'r, 'w, R, V>, session: Session<J>) -> Self
+    pub(crate) fn new(serving: &Serving<'r, 'w, 't, R, V>, session: Session<J>) -> Self
         requires goes_on { GoesOn K.may_order K.began session }
         requires orders { serving.now.orders ≡ K.may_order }
         ensures { result ≡ session }
@@ -81,6 +87,8 @@ impl<'r, 'w, K: Began, J: Centre, R: Wait, V: Watch> SessionDesk<'r, 'w, K, J, R
         SessionDesk {
             rt: serving.rt,
             watch: serving.watch,
+            text: serving.text,
+            service: serving.service,
             orders: serving.orders,
             session,
             of: PhantomData,
@@ -88,8 +96,11 @@ impl<'r, 'w, K: Began, J: Centre, R: Wait, V: Watch> SessionDesk<'r, 'w, K, J, R
     }
 
     // Shows what a command is answered.
-    fn show(&self, replied: &Result<Reply<Global>, Outage>) {
+    fn show(&self, replied: &Result<Reply<Global>, Outage>, counts: &mut ReplyCounts) {
         let station = self.session.station();
+        if let Ok(reply) = replied {
+            counts.add(reply);
+        }
         if matches!(replied, Err(Outage::Device | Outage::Broken)) {
             self.watch.failed(station);
         }
@@ -301,8 +312,8 @@ fn read<J: Centre>(
     }
 }
 
-impl<'r, 'w, K: Began, J: Centre, R: Wait, V: Watch> Desk<Global>
-    for SessionDesk<'r, 'w, K, J, R, V> {
+impl<'r, 'w, 't, K: Began, J: Centre, R: Wait + Clock, V: Watch> Desk<Global>
+    for SessionDesk<'r, 'w, 't, K, J, R, V> {
     ghost World = { AtSession };
 
     ghost world = { λ session. at_session session };
@@ -317,6 +328,8 @@ impl<'r, 'w, K: Began, J: Centre, R: Wait, V: Watch> Desk<Global>
 
     fn apply(&mut self, alloc: Global, command: &Command<Global>) -> Result<Reply<Global>, Outage> {
         let station = self.session.station();
+        let service = self.service;
+        service.set_waits(station, true);
         self.watch.before_entry(station);
         let means = Means {
             rt: self.rt,
@@ -325,7 +338,10 @@ impl<'r, 'w, K: Began, J: Centre, R: Wait, V: Watch> Desk<Global>
         };
         let replied = submit(&means, &mut self.session, command);
         self.watch.after_entry(station);
-        self.show(&replied);
+        service.set_waits(station, false);
+        let mut counts = ReplyCounts::new();
+        self.show(&replied, &mut counts);
+        service.add_replies(station, &counts);
         replied
     }
 
@@ -336,6 +352,8 @@ impl<'r, 'w, K: Began, J: Centre, R: Wait, V: Watch> Desk<Global>
         replies: &mut Vec<Result<Reply<Global>, Outage>>,
     ) {
         let station = self.session.station();
+        let service = self.service;
+        service.set_waits(station, true);
         self.watch.before_entry(station);
         let means = Means {
             rt: self.rt,
@@ -344,9 +362,12 @@ impl<'r, 'w, K: Began, J: Centre, R: Wait, V: Watch> Desk<Global>
         };
         submit_all(&means, &mut self.session, commands, replies);
         self.watch.after_entry(station);
+        service.set_waits(station, false);
+        let mut counts = ReplyCounts::new();
         for k in 0..replies.len() {
-            self.show(&replies[k]);
+            self.show(&replies[k], &mut counts);
         }
+        service.add_replies(station, &counts);
     }
 
     fn query(&mut self, alloc: Global, query: &Query) -> Result<QueryAnswer<Global>, Outage> {
@@ -356,7 +377,7 @@ impl<'r, 'w, K: Began, J: Centre, R: Wait, V: Watch> Desk<Global>
     }
 
     fn list(&mut self, listing: &Listing, out: &mut Vec<u8, Global>) -> Result<(), Outage> {
-        let listed = list::<K, J>(&mut self.session, listing, out);
+        let listed = list::<K, J, R>(self.text, &mut self.session, listing, out);
         self.watch.answered(self.session.station(), false);
         listed
     }

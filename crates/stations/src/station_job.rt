@@ -1,21 +1,28 @@
 //! What the thread of a station does.
-ghost use Rattle.std.specs.Prelude.{◌≡◌, ◌<◌};
+ghost use Rattle.std.specs.Prelude.{◌≡◌, ◌<◌, IsErrOf};
+ghost use Rattle.console.specs.Told.{EndsFor, reader_events, writer_events};
 ghost use Rattle.flusher.specs.Sessions.{IsSameSession, view_of};
-ghost use Rattle.stations.specs.Done.{IsDone, IsRunOf};
+ghost use Rattle.stations.specs.Done.{IsDone, IsRunOf, IsToldOf, speaker_of};
 ghost use Rattle.stations.specs.Orders.{Submits};
 
 use crate::job::{Done, Job};
+use crate::listing_gate::ListingGate;
 use crate::one_station::{Serving, run_session};
 use crate::port::Port;
+use crate::round_gate::RoundGate;
+use crate::station_run::StationRun;
+use crate::station_text::{StationText, TextWriter};
 use crate::watch::Watch;
-use console::{Input, Output, Ran, RunFault};
+use console::{Input, Output, Passed, Ran, RunFault, ServiceFigures};
 use flusher::Session;
 use prefix_tree::Steps;
+use recovery::Figures;
 use registration::Station;
 use snapshots::Centre;
 use std::alloc::Global;
 use std::io::{Read, Write};
 use std::marker::Brand;
+use std::rt::Clock;
 use std::sync::Wait;
 use std::sync::atomic::{AtomicU64, Ordering};
 use std::sync::ledger::{Blank, Ledger};
@@ -26,10 +33,16 @@ pub(crate) struct Shared<'r, 'w, R: Wait, V: Watch> {
     pub(crate) rt: &'r R,
     pub(crate) watch: &'w V,
     pub(crate) alloc: Global,
-    /// The most calls of each reader.
-    pub(crate) turns: u32,
     /// The last station for which no thread could be made; 0 if there was none.
     pub(crate) refused: AtomicU64,
+    /// What bounds their listings.
+    pub(crate) gate: ListingGate,
+    /// Its figures.
+    pub(crate) service: ServiceFigures,
+    /// How often its disk was synced.
+    pub(crate) syncs: &'w AtomicU64,
+    /// The figures of its store at the start.
+    pub(crate) start: Figures,
 }
 
 // What the ledgers of a run are made from.
@@ -40,13 +53,22 @@ struct Blanks {
     failures: Blank,
 }
 
-fn answer_in<L: Ledger, F: Ledger, G: Ledger, J: Centre, R: Wait, V: Watch, I: Read, O: Write>(
+fn answer_in<
+    L: Ledger,
+    F: Ledger,
+    G: Ledger,
+    J: Centre,
+    R: Wait + Clock,
+    V: Watch,
+    I: Read,
+    O: Write,
+>(
     blanks: Blanks,
     serving: &Serving<R, V>,
     reader: &mut I,
     writer: &mut O,
     session: Session<J>,
-) -> (Session<J>, Result<Ran, RunFault>)
+) -> (Session<J>, Result<Ran, RunFault>, Passed<I>)
     requires steps_name { blanks.steps.name ≡ L.name }
     requires steps_parts { blanks.steps.parts ≡ L.parts }
     requires steps_some { 0 < blanks.steps.parts }
@@ -58,8 +80,12 @@ fn answer_in<L: Ledger, F: Ledger, G: Ledger, J: Centre, R: Wait, V: Watch, I: R
     requires failures_some { 0 < blanks.failures.parts }
     ensures answers { IsRunOf J J.base (record { station = session.sender.station; orders = serving.now.orders }) (I.remaining reader.old) (O.contents writer.old) (view_of session) (view_of result.0)
         (O.contents writer.new) result.1 }
+    ensures told { IsToldOf J J.base (record { station = session.sender.station; orders = serving.now.orders })
+        (I.remaining reader.old) (O.contents writer.old) result.2 (view_of session) (view_of result.0) (O.contents writer.new) result.1 }
+    ensures ends { EndsFor serving.now.turns (reader_events result.2) (writer_events result.2) result.1 }
     ensures same { IsSameSession session result.0 }
     ensures submits { Submits serving.now.orders session.sender.sent result.0.sender.sent }
+    ensures memory { IsErrOf result.1 RunFault.NoMemory → result.0 ≡ session }
 {
     let Blanks {
         steps,
@@ -71,20 +97,25 @@ fn answer_in<L: Ledger, F: Ledger, G: Ledger, J: Centre, R: Wait, V: Watch, I: R
     let mut failures = Steps::<G>::new(failures);
     let mut input = Input::new(reader, &mut steps, &mut faults);
     let mut output = Output::new(writer, &mut failures);
-    run_session(serving, &mut input, &mut output, session)
+    let (session, ran) = run_session(serving, &mut input, &mut output, session);
+    (session, ran, Passed::by(input, output))
 }
 
 // Answers all lines of a reader by a session, or a prefix of them if the run ends early. Nothing else is written.
-fn answer_lines<J: Centre, R: Wait, V: Watch, I: Read, O: Write>(
+fn answer_lines<J: Centre, R: Wait + Clock, V: Watch, I: Read, O: Write>(
     serving: &Serving<R, V>,
     reader: &mut I,
     writer: &mut O,
     session: Session<J>,
-) -> (Session<J>, Result<Ran, RunFault>)
+) -> (Session<J>, Result<Ran, RunFault>, Passed<I>)
     ensures answers { IsRunOf J J.base (record { station = session.sender.station; orders = serving.now.orders }) (I.remaining reader.old) (O.contents writer.old) (view_of session) (view_of result.0)
         (O.contents writer.new) result.1 }
+    ensures told { IsToldOf J J.base (record { station = session.sender.station; orders = serving.now.orders })
+        (I.remaining reader.old) (O.contents writer.old) result.2 (view_of session) (view_of result.0) (O.contents writer.new) result.1 }
+    ensures ends { EndsFor serving.now.turns (reader_events result.2) (writer_events result.2) result.1 }
     ensures same { IsSameSession session result.0 }
     ensures submits { Submits serving.now.orders session.sender.sent result.0.sender.sent }
+    ensures memory { IsErrOf result.1 RunFault.NoMemory → result.0 ≡ session }
 {
     let blanks = Blanks {
         steps: Blank::new(1),
@@ -101,15 +132,33 @@ impl<'r, 'w, R: Wait, V: Watch> Shared<'r, 'w, R, V> {
             .store(u64::from(station.number()), Ordering::SeqCst);
     }
 
-    // What the run of a station is given that may give orders or may not.
-    fn serving(&self, orders: bool) -> Serving<'r, 'w, R, V>
-        ensures { result.orders ≡ orders }
+    /// The gate of the flusher's rounds.
+    pub(crate) fn round_gate(&self) -> RoundGate<'_, V> {
+        RoundGate {
+            watch: self.watch,
+            service: &self.service,
+            syncs: self.syncs,
+            start: self.start,
+        }
+    }
+
+    // What the run of a station is given that may give orders or may not, with the most calls of its reader.
+    fn serving<'t>(
+        &'t self,
+        orders: bool,
+        turns: u32,
+        text: &'t StationText<'t, 'r, R>,
+    ) -> Serving<'r, 'w, 't, R, V>
+        ensures orders { result.orders ≡ orders }
+        ensures turns { result.turns ≡ turns }
     {
         Serving {
             rt: self.rt,
             watch: self.watch,
+            text,
+            service: &self.service,
             alloc: self.alloc,
-            turns: self.turns,
+            turns,
             orders,
         }
     }
@@ -121,46 +170,82 @@ impl<'r, 'w, R: Wait, V: Watch> Shared<'r, 'w, R, V> {
 }
 
 // Answers the lines of a station. If no thread could be made for it, its run ends out of memory before its first line.
-fn run_station<J: Centre, R: Wait, V: Watch, I: Read, O: Write>(
-    shared: &Shared<R, V>,
-    orders: bool,
+fn run_station<J: Centre, R: Wait + Clock, V: Watch, I: Read, O: Write>(
+    is_refused: bool,
+    serving: &Serving<R, V>,
     reader: &mut I,
     writer: &mut O,
     session: Session<J>,
-) -> (Session<J>, Result<Ran, RunFault>)
-    ensures answers { IsRunOf J J.base (record { station = session.sender.station; orders = orders }) (I.remaining reader.old) (O.contents writer.old) (view_of session) (view_of result.0)
+) -> (Session<J>, Result<Ran, RunFault>, Passed<I>)
+    ensures answers { IsRunOf J J.base (record { station = session.sender.station; orders = serving.now.orders }) (I.remaining reader.old) (O.contents writer.old) (view_of session) (view_of result.0)
         (O.contents writer.new) result.1 }
+    ensures told { IsToldOf J J.base (record { station = session.sender.station; orders = serving.now.orders })
+        (I.remaining reader.old) (O.contents writer.old) result.2 (view_of session) (view_of result.0) (O.contents writer.new) result.1 }
+    ensures ends { EndsFor serving.now.turns (reader_events result.2) (writer_events result.2) result.1 }
     ensures same { IsSameSession session result.0 }
-    ensures submits { Submits orders session.sender.sent result.0.sender.sent }
+    ensures submits { Submits serving.now.orders session.sender.sent result.0.sender.sent }
+    ensures memory { IsErrOf result.1 RunFault.NoMemory → result.0 ≡ session }
 {
-    if shared.is_refused(session.station()) {
-        return (session, Err(RunFault::NoMemory));
+    if is_refused {
+        return (session, Err(RunFault::NoMemory), Passed::nothing());
     }
-    answer_lines(&shared.serving(orders), reader, writer, session)
+    answer_lines(serving, reader, writer, session)
 }
 
-/// Answers the lines of a station, and ends its session, whatever came of the run.
-pub(crate) fn serve<J: Centre, R: Wait, V: Watch, I: Read + Drop, O: Write + Drop>(
+// The same over a port. What came of the run is returned with its writer. A text that was not written to its end counts no more.
+fn run_port<J: Centre, R: Wait + Clock, V: Watch, I: Read + Drop, O: Write + Drop>(
     shared: &Shared<R, V>,
     job: Job<J, I, O>,
-) -> Done<J, O>
-    ensures { IsDone J J.base I.remaining O.contents job result }
+) -> (Session<J>, StationRun<I, O>)
+    ensures answers { IsRunOf J J.base (speaker_of job) (I.remaining job.port.reader) (O.contents job.port.writer) (view_of job.session) (view_of result.0)
+        (O.contents result.1.writer) result.1.ran }
+    ensures told { IsToldOf J J.base (speaker_of job) (I.remaining job.port.reader) (O.contents job.port.writer) result.1.passed
+        (view_of job.session) (view_of result.0) (O.contents result.1.writer) result.1.ran }
+    ensures ends { EndsFor job.turns (reader_events result.1.passed) (writer_events result.1.passed) result.1.ran }
+    ensures same { IsSameSession job.session result.0 }
+    ensures submits { Submits job.orders job.session.sender.sent result.0.sender.sent }
+    ensures memory { IsErrOf result.1.ran RunFault.NoMemory → result.0 ≡ job.session }
 {
     let Job {
         session,
         orders,
+        turns,
         port,
     } = job;
-    let Port {
-        mut reader,
-        mut writer,
-    } = port;
-    let (session, ran) = run_station(shared, orders, &mut reader, &mut writer, session);
+    let Port { mut reader, writer } = port;
+    let text = StationText::new(&shared.gate, shared.rt);
+    let mut writer = TextWriter::new(writer, &text);
+    let is_refused = shared.is_refused(session.station());
+    let serving = shared.serving(orders, turns, &text);
+    let (session, ran, passed) = run_station(
+        is_refused,
+        &serving,
+        &mut reader,
+        &mut writer,
+        session,
+    );
+    text.release();
+    let run = StationRun {
+        writer: writer.into_inner(),
+        ran,
+        passed,
+    };
+    (session, run)
+}
+
+/// Answers the lines of a station, and ends its session, whatever came of the run.
+pub(crate) fn serve<J: Centre, R: Wait + Clock, V: Watch, I: Read + Drop, O: Write + Drop>(
+    shared: &Shared<R, V>,
+    job: Job<J, I, O>,
+) -> Done<J, I, O>
+    ensures { IsDone J J.base I.remaining O.contents job result }
+{
+    let (session, run) = run_port(shared, job);
     let station = session.station();
     let watch = shared.watch;
-    watch.ended(station, &ran);
+    watch.ended(station, &run.ran);
     watch.before_entry(station);
     let ended = session.finish(shared.rt);
     watch.after_entry(station);
-    Done { ended, writer, ran }
+    Done { ended, run }
 }

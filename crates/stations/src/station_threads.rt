@@ -13,6 +13,7 @@ use flusher::Flusher;
 use sector_disk::Disk;
 use snapshots::Centre;
 use std::io::{Read, Write};
+use std::rt::Clock;
 use std::snapshot::Snapshot;
 use std::sync::Wait;
 use std::thread;
@@ -24,14 +25,17 @@ pub(crate) struct DoneOf<J: Centre, I: Read + Drop, O: Write + Drop> {
     job: Snapshot<Job<J, I, O>>,
 }
 
-impl<J: Centre, I: Read + Drop, O: Write + Drop> Promise<Done<J, O>> for DoneOf<J, I, O> {
+impl<J: Centre, I: Read + Drop, O: Write + Drop> Promise<Done<J, I, O>> for DoneOf<J, I, O> {
     ghost use Rattle.stations.specs.Done.{IsDone};
 
     ghost kept_by = { λ p done. IsDone J J.base I.remaining O.contents p.job.value done };
 }
 
 /// A station that was begun: its thread, or what came of the station if no thread could be made.
-pub(crate) type Begun<J, I, O> = Result<PromisedHandle<Done<J, O>, DoneOf<J, I, O>>, Done<J, O>>;
+pub(crate) type Begun<J, I, O> = Result<
+    PromisedHandle<Done<J, I, O>, DoneOf<J, I, O>>,
+    Done<J, I, O>,
+>;
 
 /// A flusher that may be dropped. Its store is then dropped too.
 pub(crate) struct Held<'r, R: Wait, J: Centre, D: Disk + Drop> {
@@ -64,7 +68,7 @@ fn begin<
     's,
     E,
     J: Centre + Send + Sync + 's,
-    R: Wait + Sync + 's,
+    R: Wait + Clock + Sync + 's,
     V: Watch + Sync + 's,
     I: Read + Send + Drop + 's,
     O: Write + Send + Drop + 's,
@@ -89,7 +93,7 @@ fn begin_all<
     's,
     E,
     J: Centre + Send + Sync + 's,
-    R: Wait + Sync + 's,
+    R: Wait + Clock + Sync + 's,
     V: Watch + Sync + 's,
     I: Read + Send + Drop + 's,
     O: Write + Send + Drop + 's,
@@ -115,7 +119,7 @@ fn begin_all<
 fn end<J: Centre, R: Threads, I: Read + Drop, O: Write + Drop>(
     rt: &R,
     begun: Begun<J, I, O>,
-) -> Done<J, O>
+) -> Done<J, I, O>
     ensures { MatchResult begun (λ h. IsDone J J.base I.remaining O.contents h.promise.job.value result) (λ done. result ≡ done) }
 {
     match begun {
@@ -128,8 +132,8 @@ fn end<J: Centre, R: Threads, I: Read + Drop, O: Write + Drop>(
 fn end_all<J: Centre, R: Threads, I: Read + Drop, O: Write + Drop>(
     rt: &R,
     begun: Vec<Begun<J, I, O>>,
-    mut done: Vec<Done<J, O>>,
-) -> Vec<Done<J, O>>
+    mut done: Vec<Done<J, I, O>>,
+) -> Vec<Done<J, I, O>>
     requires new { done.items ≡ [] }
     requires room { vec_len begun ≤ vec_capacity done }
     ensures { AllZip (λ b d. MatchResult b (λ h. IsDone J J.base I.remaining O.contents h.promise.job.value d) (λ done. d ≡ done)) begun.items result.items }
@@ -145,7 +149,7 @@ fn end_all<J: Centre, R: Threads, I: Read + Drop, O: Write + Drop>(
 pub(crate) struct ThreadRoom<J: Centre, I: Read + Drop, O: Write + Drop> {
     pub(crate) stations: usize,
     pub(crate) begun: Vec<Begun<J, I, O>>,
-    pub(crate) done: Vec<Done<J, O>>,
+    pub(crate) done: Vec<Done<J, I, O>>,
     pub ghost new: { (begun.items ≡ []) × (done.items ≡ []) },
     pub ghost room: { (stations ≤ vec_capacity begun) × (stations ≤ vec_capacity done) },
 }
@@ -156,7 +160,7 @@ fn serve_in<
     E,
     J: Centre + Send + Sync + 's,
     D: Disk + Drop,
-    R: Threads + Wait + Sync + 's,
+    R: Threads + Wait + Clock + Sync + 's,
     V: Watch + Sync + 's,
     I: Read + Send + Drop + 's,
     O: Write + Send + Drop + 's,
@@ -166,14 +170,14 @@ fn serve_in<
     flusher: &mut Flusher<J, D>,
     jobs: Vec<Job<J, I, O>>,
     room: ThreadRoom<J, I, O>,
-) -> Vec<Done<J, O>>
+) -> Vec<Done<J, I, O>>
     requires settled { IsSettled J.base (view_of flusher.old) }
     requires room { vec_len jobs ≤ room.stations }
     ensures flushed { HasFlushed D.view J.base (view_of flusher.old) (view_of flusher.new) }
     ensures done { AllZip (λ job done. IsDone J J.base I.remaining O.contents job done) jobs.items result.items }
 {
     let begun = begin_all(scope, shared, jobs, room.begun);
-    flusher.run(shared.rt, shared.watch);
+    flusher.run(shared.rt, &shared.round_gate());
     end_all(shared.rt, begun, room.done)
 }
 
@@ -184,7 +188,7 @@ fn serve_held<
     E,
     J: Centre + Send + Sync + 's,
     D: Disk + Drop,
-    R: Threads + Wait + Sync + 's,
+    R: Threads + Wait + Clock + Sync + 's,
     V: Watch + Sync + 's,
     I: Read + Send + Drop + 's,
     O: Write + Send + Drop + 's,
@@ -194,7 +198,7 @@ fn serve_held<
     mut held: Held<'r, R, J, D>,
     jobs: Vec<Job<J, I, O>>,
     room: ThreadRoom<J, I, O>,
-) -> (Held<'r, R, J, D>, Vec<Done<J, O>>)
+) -> (Held<'r, R, J, D>, Vec<Done<J, I, O>>)
     requires settled { IsSettled J.base (view_of held.flusher) }
     requires room { vec_len jobs ≤ room.stations }
     ensures flushed { HasFlushed D.view J.base (view_of held.entry.flusher) (view_of result.0.flusher) }
@@ -210,7 +214,7 @@ pub(crate) fn serve_all<
     'r,
     J: Centre + Send + Sync,
     D: Disk + Drop,
-    R: Threads + Wait + Sync,
+    R: Threads + Wait + Clock + Sync,
     V: Watch + Sync,
     I: Read + Send + Drop,
     O: Write + Send + Drop,
@@ -219,7 +223,7 @@ pub(crate) fn serve_all<
     held: Held<'r, R, J, D>,
     jobs: Vec<Job<J, I, O>>,
     room: ThreadRoom<J, I, O>,
-) -> (Held<'r, R, J, D>, Vec<Done<J, O>>)
+) -> (Held<'r, R, J, D>, Vec<Done<J, I, O>>)
     requires settled { IsSettled J.base (view_of held.flusher) }
     requires room { vec_len jobs ≤ room.stations }
     ensures flushed { HasFlushed D.view J.base (view_of held.entry.flusher) (view_of result.0.flusher) }
@@ -228,7 +232,7 @@ pub(crate) fn serve_all<
     thread::scope(
         thread::scope_env(),
         shared.rt,
-        move |scope| -> (Held<R, J, D>, Vec<Done<J, O>>)
+        move |scope| -> (Held<R, J, D>, Vec<Done<J, I, O>>)
             requires { IsSettled J.base (view_of held.flusher) × (vec_len jobs ≤ room.stations) }
             ensures { HasFlushed D.view J.base (view_of held.entry.flusher) (view_of result.0.flusher)
                 × AllZip (λ job done. IsDone J J.base I.remaining O.contents job done) jobs.items result.1.items }

@@ -9,11 +9,12 @@ use live_centre::{WatchedDisk, comes_to};
 use recovery::Store;
 use registration::Station;
 use snapshots::{Centre, NewLog};
-use stations::{Many, ManyTerms, Orders, Port, Watch, run_many};
+use stations::{Many, ManyTerms, Orders, Port, StationRun, Watch, run_many};
 use std::alloc::Global;
 use std::io;
 use std::io::{ErrorKind, Read};
 use std::marker::Brand;
+use std::rt::Clock;
 use std::sync::Wait;
 use std::sync::atomic::{AtomicU64, Ordering};
 use std::test::*;
@@ -101,12 +102,12 @@ impl<'a> Read for Line<'a> {
 
 // Whether this came of a station.
 fn is_run(
-    run: Option<&(Vec<u8>, Result<Ran, RunFault>)>,
+    run: Option<&StationRun<Line<'_>, Vec<u8>>>,
     text: &[u8],
     ran: Result<Ran, RunFault>,
 ) -> bool {
     match run {
-        Some(it) => it.0.as_slice() == text && it.1 == ran,
+        Some(it) => it.writer.as_slice() == text && it.ran == ran,
         None => false,
     }
 }
@@ -121,7 +122,7 @@ fn one_line() -> Result<Ran, RunFault> {
 
 // How many commands its register has accepted, and whether these two runs came of it.
 fn ends(
-    many: &Many<WatchedDisk, Vec<u8>>,
+    many: &Many<WatchedDisk, Line<'_>, Vec<u8>>,
     first: (&[u8], Result<Ran, RunFault>),
     second: &[u8],
 ) -> Option<u64> {
@@ -151,13 +152,13 @@ fn port_of<'a>(
 }
 
 // The runs of two stations. The first one's reader does this at its first call.
-fn both<J: Centre + Send + Sync, R: Threads + Wait + Sync>(
+fn both<'a, J: Centre + Send + Sync, R: Threads + Wait + Clock + Sync>(
     rt: &R,
     terms: ManyTerms<'_>,
     store: Store<Global, WatchedDisk>,
     first: First,
-    stages: &Stages,
-) -> Option<Many<WatchedDisk, Vec<u8>>>
+    stages: &'a Stages,
+) -> Option<Many<WatchedDisk, Line<'a>, Vec<u8>>>
     requires sound { store.broken ≡ false }
     requires centre { (terms.log.seen.book ≡ J.book) × (store.register ≡ J.base) }
 {
@@ -181,18 +182,20 @@ fn both<J: Centre + Send + Sync, R: Threads + Wait + Sync>(
 }
 
 // The same over a new disk.
-fn served<R: Threads + Wait + Sync>(
+fn served<'a, R: Threads + Wait + Clock + Sync>(
     rt: &R,
     alloc: Global,
     first: First,
-    stages: &Stages,
-) -> Option<Many<WatchedDisk, Vec<u8>>> {
+    stages: &'a Stages,
+) -> Option<Many<WatchedDisk, Line<'a>, Vec<u8>>> {
     let store = new_store(alloc)?;
+    let syncs = AtomicU64::new(0);
     let terms = ManyTerms {
         alloc,
         orders: Orders::OfAll,
         turns: 1_000,
         log: NewLog::new(),
+        syncs: &syncs,
     };
     both::<Brand, R>(rt, terms, store, first, stages)
 }
@@ -205,7 +208,10 @@ fn new_stages() -> Stages {
     }
 }
 
-fn asked_while_held<R: Threads + Wait + Sync>(rt: &R, alloc: Global) -> Option<(u64, u64, u64)> {
+fn asked_while_held<R: Threads + Wait + Clock + Sync>(
+    rt: &R,
+    alloc: Global,
+) -> Option<(u64, u64, u64)> {
     let stages = new_stages();
     let many = served(rt, alloc, First::Gives, &stages)?;
     let count = ends(
@@ -218,7 +224,7 @@ fn asked_while_held<R: Threads + Wait + Sync>(rt: &R, alloc: Global) -> Option<(
     Some((count?, held, stages.shown.load(Ordering::SeqCst)))
 }
 
-fn served_alone<R: Threads + Wait + Sync>(rt: &R, alloc: Global) -> Option<u64> {
+fn served_alone<R: Threads + Wait + Clock + Sync>(rt: &R, alloc: Global) -> Option<u64> {
     let stages = new_stages();
     let many = served(rt, alloc, First::Fails, &stages)?;
     let count = ends(

@@ -9,11 +9,12 @@ use live_centre::WatchedDisk;
 use recovery::Store;
 use registration::Station;
 use snapshots::{Centre, NewLog};
-use stations::{Many, ManyTerms, Orders, Port, Watch, run_many};
+use stations::{Many, ManyTerms, Orders, Port, StationRun, Watch, run_many};
 use std::alloc::Global;
 use std::io;
 use std::io::{ErrorKind, Read, Write};
 use std::marker::Brand;
+use std::rt::Clock;
 use std::sync::Wait;
 use std::sync::atomic::{AtomicU64, Ordering};
 use std::test::*;
@@ -146,13 +147,13 @@ struct First {
 }
 
 // The runs of two stations. All lines of the second come together.
-fn both<J: Centre + Send + Sync, R: Threads + Wait + Sync>(
+fn both<J: Centre + Send + Sync, R: Threads + Wait + Clock + Sync>(
     rt: &R,
     terms: ManyTerms<'_>,
     store: Store<Global, WatchedDisk>,
     first: First,
     shown: &Shown,
-) -> Option<Many<WatchedDisk, Failing>>
+) -> Option<Many<WatchedDisk, Lines<'static>, Failing>>
     requires sound { store.broken ≡ false }
     requires centre { (terms.log.seen.book ≡ J.book) × (store.register ≡ J.base) }
 {
@@ -190,32 +191,34 @@ fn both<J: Centre + Send + Sync, R: Threads + Wait + Sync>(
 }
 
 // The same over a new disk.
-fn served<R: Threads + Wait + Sync>(
+fn served<R: Threads + Wait + Clock + Sync>(
     rt: &R,
     alloc: Global,
     first: First,
     shown: &Shown,
-) -> Option<Many<WatchedDisk, Failing>> {
+) -> Option<Many<WatchedDisk, Lines<'static>, Failing>> {
     let store = new_store(alloc)?;
+    let syncs = AtomicU64::new(0);
     let terms = ManyTerms {
         alloc,
         orders: Orders::OfAll,
         turns: 1_000,
         log: NewLog::new(),
+        syncs: &syncs,
     };
     both::<Brand, R>(rt, terms, store, first, shown)
 }
 
 // Whether a run ended with this result, after answers of this many bytes with this beginning.
 fn is_run(
-    run: Option<&(Failing, Result<Ran, RunFault>)>,
+    run: Option<&StationRun<Lines<'static>, Failing>>,
     (begins, bytes): (&[u8], usize),
     ran: Result<Ran, RunFault>,
 ) -> bool {
     match run {
         Some(it) => {
-            let text = it.0.text.as_slice();
-            text.starts_with(begins) && text.len() == bytes && it.1 == ran
+            let text = it.writer.text.as_slice();
+            text.starts_with(begins) && text.len() == bytes && it.ran == ran
         }
         None => false,
     }
@@ -223,7 +226,10 @@ fn is_run(
 
 // How many commands the register of both has accepted, if the first one's answers have this many bytes with this beginning. The
 // numbers in their answers depend on which of them was first.
-fn accepted(many: &Many<WatchedDisk, Failing>, answered: (&[u8], usize)) -> Option<u64> {
+fn accepted(
+    many: &Many<WatchedDisk, Lines<'static>, Failing>,
+    answered: (&[u8], usize),
+) -> Option<u64> {
     let register = many.store.register()?;
     let runs = many.runs.as_slice();
     let whole = Ok(Ran {
@@ -237,7 +243,7 @@ fn accepted(many: &Many<WatchedDisk, Failing>, answered: (&[u8], usize)) -> Opti
 }
 
 // How many commands were accepted, and the calls of both stations.
-fn written<R: Threads + Wait + Sync>(
+fn written<R: Threads + Wait + Clock + Sync>(
     rt: &R,
     alloc: Global,
     first: First,

@@ -13,22 +13,24 @@ use recovery::Store;
 use registration::{Limits, Station};
 use sector_disk::Disk;
 use served_disk::{
-    CountedReader, CountedWriter, Fault, PortNames, Progress, Served, ServiceWatch, TURNS, Tally,
-    WatchedDesk, WatchedReader, check_disk, check_names, check_orders, check_pairs, check_stations,
-    dump_disk, file_names, format_disk, inputs_of, layout_of, load_register, make_disk_with,
-    name_ended, names_of, not_read, open_disk, open_files, outcome, pairs_of, ports_of,
-    print_formatted, print_loaded, print_stations, serve_stations, service_outcome, show_disk,
+    CountedReader, CountedWriter, Fault, Manner, PortNames, Progress, Served, ServiceWatch,
+    SyncedDisk, TURNS, Tally, WatchedDesk, WatchedReader, check_disk, check_names, check_orders,
+    check_pairs, check_stations, dump_disk, file_names, format_disk, inputs_of, layout_of,
+    load_register, make_disk_with, name_ended, names_of, not_read, open_disk, open_files, outcome,
+    pairs_of, ports_of, print_formatted, print_loaded, print_stations, rest_disk, serve_stations,
+    service_outcome, show_disk, stream_pair,
 };
 use snapshots::NewLog;
 use stations::{ManyTerms, Orders, Port, Watch};
-use std::alloc::Global;
+use std::alloc::{AllocError, Global};
 use std::fs::{File, Files};
 use std::io::{IsTerminal, Read, Write};
 use std::marker::Brand;
 use std::process::ExitCode;
 use std::rt::Clock;
-use std::sync::Wait;
-use std::thread::Threads;
+use std::sync::atomic::AtomicU64;
+use std::sync::{Arc, OnceLock, Wait};
+use std::thread::{Builder, Threads};
 use std::{env, fs, io};
 
 /// How much the register in memory holds at most.
@@ -48,44 +50,103 @@ fn main(rt: HostRuntime) -> ExitCode {
         Ok(request) => request,
         Err(refusal) => return print_refusal(&rt, &refusal),
     };
-    let ended = match &request {
-        Request::Memory => status_of(serve_memory(&rt)),
-        Request::Format { settings, disk } => status_of(make_disk(&rt, settings, disk)),
+    if !stops_at_fault(&request) {
+        return carry_out(&rt, rt, &request, None);
+    }
+    drop(request);
+    let Ok((finish, given)) = new_finish(rt.alloc()) else {
+        return exit_code(&rt, Err(Fault::Memory));
+    };
+    let service = Builder::new()
+        .stack_size(STACK)
+        .spawn(&rt, move || serve_words(&rt, rt, &words, &given));
+    match service {
+        Ok(_thread) => *finish.wait(&rt),
+        Err(_) => exit_code(&rt, Err(Fault::Memory)),
+    }
+}
+
+/// Whether a request is to serve until the device fails.
+fn stops_at_fault(request: &Request<'_>) -> bool {
+    matches!(
+        request,
+        Request::Serve {
+            stop_at_fault: true,
+            ..
+        }
+    )
+}
+
+/// What a program and a service in a thread of its own share: where the exit code is put, when all stations have ended or the device
+/// has failed. The first that is put counts. The program then ends, and with it all threads that still run.
+type Finish = Arc<OnceLock<ExitCode>, Global>;
+
+/// How many bytes the stack of such a service has: as many as that of the program's first thread.
+const STACK: usize = 8 << 20;
+
+/// One for the program, and the same for the service.
+fn new_finish(alloc: Global) -> Result<(Finish, Finish), AllocError> {
+    let finish = Arc::new(alloc, OnceLock::new())?;
+    let given = finish.clone()?;
+    Ok((finish, given))
+}
+
+/// Serves by these words, and puts the exit code into `finish`, unless there is one.
+fn serve_words<R: Threads + Wait + Sync + Clock + Print + Eprint + Files<File = File>>(
+    rt: &R,
+    host: HostRuntime,
+    words: &[String],
+    finish: &OnceLock<ExitCode>,
+) {
+    let code = match read_command_line(host.alloc(), words) {
+        Ok(request) => carry_out(rt, host, &request, Some(finish)),
+        Err(refusal) => print_refusal(&host, &refusal),
+    };
+    let _ = finish.set(rt, code);
+}
+
+/// Carries out a request, and returns the exit code. `finish` is where a service puts it if the device fails.
+fn carry_out<R: Threads + Wait + Sync + Clock + Print + Eprint + Files<File = File>>(
+    rt: &R,
+    host: HostRuntime,
+    request: &Request<'_>,
+    finish: Option<&OnceLock<ExitCode>>,
+) -> ExitCode {
+    let syncs = AtomicU64::new(0);
+    let ended = match request {
+        Request::Memory => status_of(serve_memory(&host)),
+        Request::Format { settings, disk } => status_of(make_disk(&host, settings, disk)),
         Request::Run {
             disk,
             files,
             orders,
         } => {
-            let watched = rt.stderr().is_terminal();
-            let served = ServedDisk { disk, orders };
-            status_of(run_files(&rt, rt.alloc(), served, files, watched))
+            let watched = host.stderr().is_terminal();
+            let target = target_of(disk, orders, &syncs);
+            status_of(run_files(rt, host.alloc(), target, files, watched))
         }
         Request::Serve {
             disk,
             pairs,
             orders,
-        } if pairs.is_empty() => {
-            let port = Port {
-                reader: rt.stdin(),
-                writer: rt.stdout(),
-            };
-            serve_port(&rt, rt.alloc(), ServedDisk { disk, orders }, port)
+            log,
+            stop_at_fault: _,
+        } => {
+            let target = target_of(disk, orders, &syncs);
+            let manner = Manner { log: *log, finish };
+            serve(rt, host, target, pairs, manner)
         }
-        Request::Serve {
-            disk,
-            pairs,
-            orders,
-        } => serve_pairs(&rt, rt, ServedDisk { disk, orders }, pairs),
-        Request::Show { disk, words } => status_of(show_words(&rt, disk, words)),
-        Request::Dump { disk } => status_of(dump_register(&rt, disk)),
+        Request::Show { disk, words } => status_of(show_words(&host, disk, words)),
+        Request::Dump { disk } => status_of(dump_register(&host, disk)),
         Request::Load {
             dump,
             settings,
             disk,
-        } => status_of(load_disk(&rt, dump, settings, disk)),
-        Request::Check { disk } => check_sides(&rt, disk),
+        } => status_of(load_disk(&host, dump, settings, disk)),
+        Request::Check { disk, rest: false } => check_sides(&host, disk),
+        Request::Check { disk, rest: true } => print_rest(&host, disk),
     };
-    exit_code(&rt, ended)
+    exit_code(&host, ended)
 }
 
 /// The words that the program was started with; the first is its name.
@@ -227,6 +288,18 @@ fn check_sides<'a>(rt: &HostRuntime, disk: &'a str) -> Result<u8, Fault<'a>> {
     Ok(if well { 0 } else { 5 })
 }
 
+/// Prints what is left of the register on a disk as text, and on standard error what it lacks. `Ok` has the exit status: 5 if the disk
+/// does not open.
+fn print_rest<'a>(rt: &HostRuntime, disk: &'a str) -> Result<u8, Fault<'a>> {
+    let watched = rt.stderr().is_terminal() && !rt.stdout().is_terminal();
+    let tally = Tally::of_sectors(rt, watched);
+    let rested = rest_disk(rt, rt.alloc(), disk, &tally, &mut io::writer(rt));
+    tally.finish();
+    let (report, _disk) = rested?;
+    let whole = printed(rt.stderr().write_all(&report.text), report.whole)?;
+    Ok(if whole { 0 } else { 5 })
+}
+
 /// The result of a request whose answer was printed, or could not be.
 fn printed<'a>(written: io::Result<()>, troubled: bool) -> Result<bool, Fault<'a>> {
     match written {
@@ -236,16 +309,16 @@ fn printed<'a>(written: io::Result<()>, troubled: bool) -> Result<bool, Fault<'a
 }
 
 /// Opens the register on a disk. It must have this many stations.
-fn open_for<'a, R: Files<File = File>>(
+fn open_for<'a, 'o, R: Files<File = File>>(
     rt: &R,
     alloc: Global,
-    disk: &'a str,
+    target: ServedDisk<'a, 'o>,
     stations: usize,
-) -> Result<Store<Global, FileDisk<HostFile>>, Fault<'a>>
+) -> Result<Store<Global, ServedFile<'o>>, Fault<'a>>
     ensures sound { IfOk result (λ store. store.broken ≡ false) }
     ensures most { OnOk result (stations ≤ 64) }
 {
-    let store = open_disk(rt, alloc, disk)?;
+    let store = open_disk(rt, alloc, target.disk, target.syncs)?;
     match check_stations(&store, stations) {
         Ok(()) => Ok(store),
         Err(fault) => {
@@ -255,20 +328,34 @@ fn open_for<'a, R: Files<File = File>>(
     }
 }
 
-/// A disk that is served, and the stations that may give orders; without any, each may.
+/// A disk that is served, the stations that may give orders, and where the syncs of the disk are counted. Without any such station,
+/// each may.
 #[derive(Clone, Copy)]
 struct ServedDisk<'a, 'o> {
     disk: &'a str,
     orders: &'o [u16],
+    syncs: &'o AtomicU64,
 }
 
-/// What a run of stations is given. These may give orders; all, if none is named.
-fn terms_of(alloc: Global, orders: &[u16]) -> ManyTerms<'_> {
+fn target_of<'a, 'o>(disk: &'a str, orders: &'o [u16], syncs: &'o AtomicU64) -> ServedDisk<'a, 'o> {
+    ServedDisk {
+        disk,
+        orders,
+        syncs,
+    }
+}
+
+/// The file of a disk that is served.
+type ServedFile<'s> = SyncedDisk<'s, FileDisk<HostFile>>;
+
+/// What a run of stations over this disk is given.
+fn terms_of<'o>(alloc: Global, target: ServedDisk<'_, 'o>) -> ManyTerms<'o> {
     ManyTerms {
         alloc,
-        orders: Orders::by(orders),
+        orders: Orders::by(target.orders),
         turns: TURNS,
         log: NewLog::new(),
+        syncs: target.syncs,
     }
 }
 
@@ -283,7 +370,7 @@ fn run_files<'a, R: Threads + Wait + Sync + Clock + Print + Eprint + Files<File 
     check_names(alloc, files)?;
     check_orders(target.orders, files.len())?;
     let names = file_names(alloc, files)?;
-    let store = open_for(rt, alloc, target.disk, files.len())?;
+    let store = open_for(rt, alloc, target, files.len())?;
     let Ok(progress) = Progress::of_many(rt, alloc, watched, files.len()) else {
         drop(store);
         return Err(Fault::Memory);
@@ -295,7 +382,7 @@ fn run_files<'a, R: Threads + Wait + Sync + Clock + Print + Eprint + Files<File 
             return Err(fault);
         }
     };
-    let terms = terms_of(alloc, target.orders);
+    let terms = terms_of(alloc, target);
     let served = serve_ports(rt, terms, store, ports, &progress)?;
     report(rt, &names, &served, &progress)
 }
@@ -303,35 +390,35 @@ fn run_files<'a, R: Threads + Wait + Sync + Clock + Print + Eprint + Files<File 
 /// Serves the lines of each port as those of stations 1, 2 and so on, over the store.
 fn serve_ports<
     'a,
-    R: Threads + Wait + Sync,
+    R: Threads + Wait + Clock + Sync,
     I: Read + Send + Drop,
     O: Write + Send + Drop,
     V: Watch + Sync,
 >(
     rt: &R,
     terms: ManyTerms<'_>,
-    store: Store<Global, FileDisk<HostFile>>,
+    store: Store<Global, ServedFile<'_>>,
     ports: Vec<Port<I, O>>,
     watch: &V,
-) -> Result<Served<O>, Fault<'a>>
+) -> Result<Served<I, O>, Fault<'a>>
     requires sound { store.broken ≡ false }
     ensures { IfOk result (λ served. length served.runs.items ≡ length ports.items) }
 {
-    serve_stations::<Brand, FileDisk<HostFile>, R, I, O, V>(rt, terms, store, ports, watch)
+    serve_stations::<Brand, ServedFile<'_>, R, I, O, V>(rt, terms, store, ports, watch)
 }
 
 /// Prints the last figures and the answers of each station, and returns how all have ended.
-fn report<'a, R: Clock + Print + Eprint>(
+fn report<'a, R: Clock + Print + Eprint, I>(
     rt: &R,
     names: &[PortNames<'a>],
-    served: &Served<Vec<u8>>,
+    served: &Served<I, Vec<u8>>,
     progress: &Progress<'_, R>,
 ) -> Result<bool, Fault<'a>>
     requires same { length names.now ≡ length served.now.runs.items }
     requires few { length names.now ≤ 64 }
 {
     for index in 0..served.runs.len() {
-        progress.end(index, &served.runs[index].1);
+        progress.end(index, &served.runs[index].ran);
     }
     progress.finish();
     let written = print_stations(&mut io::writer(rt), names, &served.runs);
@@ -341,54 +428,99 @@ fn report<'a, R: Clock + Print + Eprint>(
     }
 }
 
-/// Serves station 1 over the register on a disk by this port: standard input and standard output. `Ok` has the exit status.
-fn serve_port<
-    'a,
-    R: Threads + Wait + Sync + Eprint + Files<File = File>,
-    I: Read + Send + Drop,
-    O: Write + Send + Drop,
->(rt: &R, alloc: Global, target: ServedDisk<'a, '_>, port: Port<I, O>) -> Result<u8, Fault<'a>> {
-    check_orders(target.orders, 1)?;
-    let named: [(&'a str, &'a str); 1] = [("-", "-")];
-    let pairs = pairs_of(alloc, &named)?;
-    let Ok(mut ports) = Vec::with_capacity(alloc, 1) else {
-        return Err(Fault::Memory);
-    };
-    ports.push_reserved(port);
-    let store = open_for(rt, alloc, target.disk, 1)?;
-    let watch = ServiceWatch::new(rt, alloc, &pairs);
-    serve_watched(rt, target.orders, store, ports, &watch)
-}
-
-/// Serves the pairs of files of stations 1, 2 and so on, over the register on a disk. A station whose IN and OUT are both `-` is left
-/// out. `Ok` has the exit status.
-fn serve_pairs<'a, R: Threads + Wait + Sync + Eprint>(
+/// Serves the pairs of files of stations 1, 2 and so on; without any, station 1 by the standard streams. `Ok` has the exit status.
+fn serve<'a, R: Threads + Wait + Sync + Clock + Eprint + Files<File = File>>(
     rt: &R,
     host: HostRuntime,
     target: ServedDisk<'a, '_>,
     named: &[(&'a str, &'a str)],
+    manner: Manner<'_>,
+) -> Result<u8, Fault<'a>> {
+    if named.is_empty() {
+        serve_streams(rt, host, target, manner)
+    } else {
+        serve_pairs(rt, host, target, named, manner)
+    }
+}
+
+/// Serves station 1 over the register on a disk by standard input and standard output. `Ok` has the exit status.
+fn serve_streams<'a, R: Threads + Wait + Sync + Clock + Eprint + Files<File = File>>(
+    rt: &R,
+    host: HostRuntime,
+    target: ServedDisk<'a, '_>,
+    manner: Manner<'_>,
+) -> Result<u8, Fault<'a>> {
+    let port = Port {
+        reader: host.stdin(),
+        writer: host.stdout(),
+    };
+    serve_port(rt, host.alloc(), target, manner, port)
+}
+
+/// The same by this port.
+fn serve_port<
+    'a,
+    R: Threads + Wait + Sync + Clock + Eprint + Files<File = File>,
+    I: Read + Send + Drop,
+    O: Write + Send + Drop,
+>(
+    rt: &R,
+    alloc: Global,
+    target: ServedDisk<'a, '_>,
+    manner: Manner<'_>,
+    port: Port<I, O>,
+) -> Result<u8, Fault<'a>> {
+    check_orders(target.orders, 1)?;
+    let pairs = stream_pair(alloc)?;
+    let Ok(mut ports) = Vec::with_capacity(alloc, 1) else {
+        return Err(Fault::Memory);
+    };
+    ports.push_reserved(port);
+    let store = open_for(rt, alloc, target, 1)?;
+    let watch = ServiceWatch::new(rt, alloc, &pairs, manner);
+    watch.begin(count_of(&store));
+    watch.start(Station::new(1));
+    serve_watched(rt, target, store, ports, &watch)
+}
+
+/// Serves the pairs of files of stations 1, 2 and so on, over the register on a disk. A station whose IN and OUT are both `-` is left
+/// out. `Ok` has the exit status.
+fn serve_pairs<'a, R: Threads + Wait + Sync + Clock + Eprint>(
+    rt: &R,
+    host: HostRuntime,
+    target: ServedDisk<'a, '_>,
+    named: &[(&'a str, &'a str)],
+    manner: Manner<'_>,
 ) -> Result<u8, Fault<'a>> {
     let alloc = host.alloc();
     check_pairs(named)?;
     check_orders(target.orders, named.len())?;
     check_names(alloc, &inputs_of(alloc, named)?)?;
     let pairs = pairs_of(alloc, named)?;
-    let ports = ports_of(rt, host, alloc, &pairs)?;
-    let store = open_for(&host, alloc, target.disk, named.len())?;
-    let watch = ServiceWatch::new(rt, alloc, &pairs);
-    serve_watched(rt, target.orders, store, ports, &watch)
+    let ports = ports_of(rt, host, &pairs, manner.log)?;
+    let store = open_for(&host, alloc, target, named.len())?;
+    let watch = ServiceWatch::new(rt, alloc, &pairs, manner);
+    watch.begin(count_of(&store));
+    serve_watched(rt, target, store, ports, &watch)
+}
+
+/// How many commands the register of a store has accepted.
+fn count_of(store: &Store<Global, ServedFile<'_>>) -> u64
+    requires sound { store.now.broken ≡ false }
+{
+    store.register().unwrap().count()
 }
 
 /// Serves these ports; each answer is written as it comes. `Ok` has the exit status.
 fn serve_watched<
     'a,
-    R: Threads + Wait + Sync + Eprint,
+    R: Threads + Wait + Sync + Clock + Eprint,
     I: Read + Send + Drop,
     O: Write + Send + Drop,
 >(
     rt: &R,
-    orders: &[u16],
-    store: Store<Global, FileDisk<HostFile>>,
+    target: ServedDisk<'_, '_>,
+    store: Store<Global, ServedFile<'_>>,
     ports: Vec<Port<I, O>>,
     watch: &ServiceWatch<'_, '_, 'a, R>,
 ) -> Result<u8, Fault<'a>>
@@ -402,7 +534,7 @@ fn serve_watched<
             return Err(fault);
         }
     };
-    let terms = terms_of(watch.alloc(), orders);
+    let terms = terms_of(watch.alloc(), target);
     let served = serve_ports(rt, terms, store, ports, watch)?;
     name_ended(rt, &mut names, watch.pairs());
     match service_outcome(&names, &served) {

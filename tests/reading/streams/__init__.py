@@ -5,7 +5,7 @@ import reading
 U = '234-14-2001'
 RULE_BODY = 'rule 234-14-0/24 1 99 1 3600'
 RULE = f'1 0 {RULE_BODY}'
-NO_COMMANDS = ('where', 'look', 'groups', 'members', 'mail', 'count', 'rules', 'radios', 'items', 'due', 'last', 'room', 'mark', 'station', '#', '')
+NO_COMMANDS = ('where', 'look', 'groups', 'members', 'mail', 'count', 'rules', 'radios', 'items', 'due', 'waiting', 'last', 'room', 'dump', 'mark', 'station', '#', '')
 
 
 def binary(value, width):

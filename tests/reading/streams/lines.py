@@ -7,7 +7,7 @@ from streams import RULE_BODY, U, demand, detach, numbered, text
 V, G = '234-14-2002', '234-14-1000'
 COMMANDS = [RULE_BODY, 'unrule 234-14-2001/48', f'mm {U} 7 60:7380480A00007D0', f'sds {U} {V} 48:820405014849', f'gsds {U} {G} 48:820405014849', f'sent {V} {U} 5 m', 'expire', f'delete {V} {U} 5 r']
 QUERIES = [f'where {U}', f'look {V}', f'groups {U}', f'members {G}', f'mail {V}', 'count',
-           'rules', 'radios', 'radios 234-14-0/24', 'items', 'due 3600', 'last 1', 'room', 'mark here', 'station']
+           'rules', 'radios', 'radios 234-14-0/24', 'items', 'due 3600', 'waiting 1', 'last 1', 'room', 'dump', 'mark here', 'station']
 
 
 def numbers():
@@ -25,7 +25,8 @@ def numbers():
     queries = [f'{word} {name}' for word in ('where', 'look', 'groups', 'members', 'mail')
                for name in ('{}', '{}-14-2001', '234-{}-2001', '234-14-{}', '234-14-2001 {}')]
     queries += [f'radios {name}' for name in ('{}', '{}/48', '{}-0-0/10', '234-{}-0/24', '234-14-{}/48', '0-0-0/{}', '234-14-2000/{}', '0-0-0/0 {}')]
-    queries += ['due {}', 'last {}', 'due 1 {}', 'last 1 {}', 'rules {}', 'items {}', 'room {}', 'mark {}', 'mark 1 {}', 'station {}', 'station 1 {}']
+    queries += [f'{word} {end}' for word in ('due', 'waiting', 'last') for end in ('{}', '1 {}')]
+    queries += ['rules {}', 'items {}', 'room {}', 'dump {}', 'mark {}', 'mark 1 {}', 'station {}', 'station 1 {}']
     fields = [('1023', '1024'), ('16383', '16384'), ('16777215', '16777216')]
     edges = [f'{word} {"-".join(parts)}' for word in ('where', 'look', 'groups', 'members', 'mail')
              for parts in itertools.product(*fields)]

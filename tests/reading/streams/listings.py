@@ -1,5 +1,5 @@
-"""Listings: rules and radios under prefixes of every length; items and what is due of them round each deadline; mailboxes that are equally
-full; the last command after each kind of line; long random lives of a few radios."""
+"""Listings: rules and radios under prefixes of every length; items, what is due of them round each deadline, and what waits at each station
+while radios come and go; mailboxes that are equally full; the last command after each kind of line; long random lives of a few radios."""
 import itertools
 import random
 
@@ -8,7 +8,7 @@ from streams import RULE, RULE_BODY, U, demand, detach, numbered, text
 from streams.group_messages import G, HERE, OTHER, UNRULED, gsds, random_body
 from streams.messages import ALL_OUT, RULELESS, V, W, life, message, report, sds
 
-ALL = ['rules', 'radios', 'items', 'due 0', 'due 4294967295', 'last 1', 'room']
+ALL = ['rules', 'radios', 'items', 'due 0', 'due 4294967295', 'waiting 1', 'last 1', 'room', 'dump']
 FIRST, LAST = '0-0-0', '1023-16383-16777215'
 
 
@@ -54,6 +54,17 @@ def items_that_are_due():
         yield numbered(bodies)
 
 
+def items_that_wait_here():
+    """Messages, copies and reports for radios that leave one after another and come back; also of each other station."""
+    posted = [sds(U, V, message(1)), gsds(W, G, message(2)), sds(V, U, report(1, 1)), sds(U, W, message(3)), sds(W, V, message(4))]
+    asked = [f'waiting {station}' for station in (0, 1, 2, 4, 65535)]
+    for leaving in itertools.permutations((U, V, W)):
+        bodies = HERE + [line for one in posted for line in (one, 'waiting 1')] + asked
+        for change in detach, lambda one: demand(3, one):
+            bodies += [line for one in leaving for line in (change(one), 'waiting 1', 'items')]
+        yield numbered(bodies + asked)
+
+
 def full_boxes():
     """Boxes that become equally full and stop being so; 128 items for one radio, and 256 in all."""
     bodies = HERE[:]
@@ -81,8 +92,8 @@ def listing_lives():
         dice = random.Random(700 + seed)
         radios, groups = [U, V, W, RULELESS, '234-14-2005'][:3 + seed % 3], [G, OTHER, UNRULED]
         prefix = lambda: under(reading.identity(dice.choice(radios).encode()), dice.choice([0, 1, 10, 14, 24, 44, 46, 47, 48, dice.randrange(49)]))
-        query = lambda: dice.choice(['rules', 'radios', f'radios {prefix()}', 'items', f'due {dice.randrange(900)}', 'last 1', 'room', 'room'])
+        query = lambda: dice.choice(['rules', 'radios', f'radios {prefix()}', 'items', f'due {dice.randrange(900)}', f'waiting {dice.randrange(1, 3)}', 'waiting 1', 'last 1', 'room', 'room', 'dump'])
         yield life(dice, radios, lambda: random_body(dice, radios, groups), query) + text(ALL)
 
 
-KINDS = [radios_under_prefixes, rules_under_prefixes, items_that_are_due, full_boxes, last_commands, listing_lives]
+KINDS = [radios_under_prefixes, rules_under_prefixes, items_that_are_due, items_that_wait_here, full_boxes, last_commands, listing_lives]

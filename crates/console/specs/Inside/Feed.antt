@@ -15,7 +15,7 @@ use Rattle.desk.specs.Rules.{Rules}
 use Rattle.console.specs.Dialogue.{Dialogue}
 use Rattle.console.specs.Reading.{Speaker}
 use Rattle.console.specs.Runs.{Start, Outcome, speaker_of}
-use Rattle.console.specs.Events.{Event}
+use Rattle.console.specs.Events.{Event, read_failures}
 use Rattle.console.specs.Told.{IsTold}
 use Rattle.console.specs.Inside.Passing.{Follows, Passes, Sent, sent_by}
 use Rattle.console.specs.Inside.Current.{HasNoEnd, Holds, IsGivenFor}
@@ -138,3 +138,10 @@ IsPiece (Bytes n) buffer input left = (rest : List Byte) × (left ≡ Some rest)
 abbrev pub read_in : Piece → List Byte → List Byte
 read_in End buffer = []
 read_in (Bytes n) buffer = take n buffer
+
+-- so many calls of the reader were made from one moment to another, and none failed
+pub record HasCalled (old new : List Event) (count : ℕ) : Type 0 where
+  pub calls : List Event
+  pub follows : new ≡ old ++ calls
+  pub counted : length calls ≡ count
+  pub sound : read_failures calls ≡ 0

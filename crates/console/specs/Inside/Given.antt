@@ -13,16 +13,19 @@ module _ {A : Type 0} where
   abbrev pub answer_of : List Byte → Given A → Answer A
   answer_of bytes (given.Answered answer) = answer
   answer_of bytes given.Listed = answer.Listed bytes
+  answer_of bytes given.Service = answer.Service bytes
 
-  -- no listing, and a PDU in it has at most 2,048 bits
+  -- no listing, no figures, and a PDU in it has at most 2,048 bits
   abbrev pub IsPrintable : Answer A → Type 0
   IsPrintable (answer.Listed lines) = ⊥
+  IsPrintable (answer.Service lines) = ⊥
   IsPrintable other = HasNoLongPdu other
 
   -- an answer that is given can be printed
   abbrev pub MayBePrinted : Given A → Type 0
   MayBePrinted (given.Answered answer) = IsPrintable answer
   MayBePrinted given.Listed = Unit {0}
+  MayBePrinted given.Service = Unit {0}
 
   -- the bytes are the text of what is given for this answer to the line of this number, and troubled is whether that is trouble
   abbrev pub IsTextFor : ℕ → Answer A → List Byte → Bool → Type 0

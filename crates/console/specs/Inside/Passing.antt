@@ -1,28 +1,33 @@
 -- What passes by the writer of a run.
-use Rattle.std.specs.Prelude.{◌≡◌, List, [], ◌∷◌, ◌++◌, Option, Some}
+use Rattle.std.specs.Prelude.{◌≡◌, ℕ, ◌+◌, List, [], ◌∷◌, ◌++◌, Option, Some}
 use Rattle.identity.specs.Numbers.{Byte}
 use Rattle.console.specs.declared.output.Output.{Output}
-use Rattle.console.specs.Events.{Event, Read, Answered, Wrote, answered_by, written_by}
+use Rattle.console.specs.Events.{Event, Read, ReadFailed, Answered, Wrote, WriteFailed, answered_by, write_failures, written_by}
 
--- the bytes of a writer, if they are known, and what passed
+-- the bytes of a writer, if they are known, what passed, and how many failures of the writer the ledger has
 pub record Sent : Type 0 where
   pub bytes : Option (List Byte)
   pub events : List Event
+  pub failures : ℕ
 
 -- those of an output, by the bytes of its writer
 abbrev pub sent_by : {W G : Type 0} → (W → Option (List Byte)) → Output W G → Sent
-sent_by contents output = record { bytes = contents output.writer.now; events = output.events.list }
+sent_by contents output = record { bytes = contents output.writer.now; events = output.events.list; failures = output.failures.now }
 
--- these events come next; if the bytes of the writer are known, they have what is written at these events after them
+-- these events come next; if the bytes of the writer are known, they have what is written at these events after them; and the ledger counts
+-- the failures of the writer among them
 abbrev pub Follows : Sent → List Event → Sent → Type 0
 Follows old events new = (new.events ≡ old.events ++ events) × ((held : List Byte) → old.bytes ≡ Some held → new.bytes ≡ Some (held ++ written_by events))
+    × (new.failures ≡ old.failures + write_failures events)
 
 -- only what waits is written, first come first: from the text that waits before these events to the text that waits after them
 abbrev pub Leaves : List Byte → List Event → List Byte → Type 0
 Leaves waiting [] left = left ≡ waiting
 Leaves waiting (Read bytes ∷ events) left = Leaves waiting events left
+Leaves waiting (ReadFailed ∷ events) left = Leaves waiting events left
 Leaves waiting (Answered text ∷ events) left = Leaves (waiting ++ text) events left
 Leaves waiting (Wrote bytes ∷ events) left = (rest : List Byte) × (waiting ≡ bytes ++ rest) × Leaves rest events left
+Leaves waiting (WriteFailed ∷ events) left = Leaves waiting events left
 
 -- events from one moment to another: the text that waits at the first, the answers that are given, and the text that is left
 pub record Passes (old new : Sent) (waiting answered left : List Byte) : Type 0 where

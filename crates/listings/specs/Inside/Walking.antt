@@ -10,7 +10,11 @@ use Rattle.prefix_tree.specs.Table.{PathMap}
 use Rattle.prefix_tree.specs.Next.{next_entry}
 use Rattle.registration.specs.Registered.{Registered}
 use Rattle.registration.specs.declared.radio.Radio.{Radio}
-use Rattle.mailbox.specs.Order.{next_item, next_due}
+use Rattle.registration.specs.Numbers.{Station}
+use Rattle.mailbox.specs.Numbers.{Number}
+use Rattle.mailbox.specs.declared.key.Key.{Key}
+use Rattle.mailbox.specs.Values.{Item, Mailed}
+use Rattle.mailbox.specs.Order.{named, named_cmp, next_item, next_due}
 use Rattle.centre_core.specs.State.{State}
 use Rattle.listings.specs.declared.listing.Table.{Table}
 use Rattle.listings.specs.declared.listing.Table.TheVariants as table
@@ -18,7 +22,7 @@ use Rattle.listings.specs.declared.walk.Place.{Place}
 use Rattle.listings.specs.declared.walk.Place.TheVariants as place
 use Rattle.listings.specs.declared.walk.Entry.{Entry as BorrowedEntry}
 use Rattle.listings.specs.declared.walk.Entry.TheVariants as borrowed
-use Rattle.listings.specs.Entries.{Entry, RuleEntry, RadioEntry, ItemEntry, is_under, rule_entry, radio_entry}
+use Rattle.listings.specs.Entries.{Entry, RuleEntry, RadioEntry, ItemEntry, is_under, rule_entry, radio_entry, waits_at}
 
 -- a borrowed entry as a value
 abbrev pub entry_of : {B : Type 0} → BorrowedEntry B → Entry
@@ -50,6 +54,14 @@ AreIdentities radios = All (λ e. length e.0 ≡ 48) (map.entries radios)
 abbrev pub radio_after : Registered → Option Path → Option Itsi → Option (Path × Radio)
 radio_after s prefix after = next_of path_cmp (λ e. e.0) (filter (λ e. is_under prefix e.0) (map.entries s.radios)) (option_map id_path after)
 
+-- the first item after this number and key that waits at the station, or the first of all that do
+abbrev pub waiting_from : Registered → Mailed → Station → Option (Number × Key) → Option Item
+waiting_from r m station after = next_of named_cmp named (filter (waits_at r station) m.items) after
+
+-- the same of a state
+abbrev pub next_waiting : State → Station → Option (Number × Key) → Option Item
+next_waiting s station after = waiting_from s.registered s.mail station after
+
 -- the first entry of a table after a place, or the first of all; none after a place of another table
 abbrev pub entry_after : State → Table → Option Place → Option Entry
 entry_after s table.Rules None = option_map rule_entry (next_entry s.registered.rules None)
@@ -60,4 +72,6 @@ entry_after s table.Items None = option_map ItemEntry (next_item s.mail None)
 entry_after s table.Items (Some (place.Item number key)) = option_map ItemEntry (next_item s.mail (Some (number, key)))
 entry_after s (table.Due moment) None = option_map ItemEntry (next_due s.mail moment None)
 entry_after s (table.Due moment) (Some (place.Item number key)) = option_map ItemEntry (next_due s.mail moment (Some (number, key)))
+entry_after s (table.WaitingAt station) None = option_map ItemEntry (next_waiting s station None)
+entry_after s (table.WaitingAt station) (Some (place.Item number key)) = option_map ItemEntry (next_waiting s station (Some (number, key)))
 entry_after s table other = None

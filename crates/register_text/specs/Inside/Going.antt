@@ -1,10 +1,17 @@
--- How far the reading of a text has come.
-use Rattle.std.specs.Prelude.{◌≡◌, ℕ, ◌≤◌, List, [], ◌++◌, length, take, Option, Some, None, Result}
+-- How far the reading of a text has come, and the writing.
+use Rattle.std.specs.Prelude.{◌≡◌, ℕ, ◌≤◌, List, ◌++◌, length, Option, Result}
 use Rattle.identity.specs.Numbers.{Byte}
 use Rattle.centre_core.specs.State.{State}
+use Rattle.image_rows.specs.Loading.{◌>>=◌, Loading}
+use Rattle.image_rows.specs.RowReading.{row_in}
+use Rattle.register_text.specs.Text.{stated_taken}
 use Rattle.register_text.specs.Dump.{HasNoFeed, longest_line, text_from}
+use Rattle.register_text.specs.Passing.{HavePassed}
+use Rattle.register_text.specs.declared.dumping.DumpFault.{DumpFault}
+use Rattle.register_text.specs.declared.dumping.DumpFault.TheVariants.{Write}
 use Rattle.register_text.specs.declared.loading.Reading.{Reading}
 use Rattle.register_text.specs.declared.load_fault.LoadFault.{LoadFault}
+use Rattle.register_text.specs.declared.load_fault.LoadFault.TheVariants as load
 
 -- what is kept of a line whose line feed has not come
 abbrev pub IsKept : List Byte → Type 0
@@ -14,12 +21,21 @@ IsKept line = HasNoFeed line × (length line ≤ longest_line)
 abbrev pub outcome : {A : Type 0} → Reading A → List Byte → Result State LoadFault
 outcome r left = text_from r.number r.loader (r.line.items ++ left)
 
--- no more bytes than there was room for
-abbrev pub FitsPiece : Option ℕ → ℕ → Type 0
-FitsPiece None room = Unit {0}
-FitsPiece (Some n) room = n ≤ room
+-- the loading with the row of a sector, if that agrees with what was stated and may come next
+abbrev pub stated_from : Option ℕ → Loading → List Byte → Option Loading
+stated_from stated l bytes = row_in bytes >>= stated_taken stated l
 
--- the reader was at its end; or the first n bytes of the buffer are what came next
-abbrev pub IsPiece : Option ℕ → List Byte → List Byte → Option (List Byte) → Type 0
-IsPiece None buffer input left = (input ≡ []) × (left ≡ Some [])
-IsPiece (Some n) buffer input left = (rest : List Byte) × (left ≡ Some rest) × (input ≡ take n buffer ++ rest)
+-- a fault of what the reader gave: of a line, or memory ran out for it
+abbrev pub IsOfLine : LoadFault → Type 0
+IsOfLine load.Memory = Unit {0}
+IsOfLine load.Read = ⊥
+IsOfLine (load.Line n cause) = Unit {0}
+IsOfLine (load.Cut n) = ⊥
+
+-- the text that was held grew by these bytes, of which the writer took some, and the rest is held
+abbrev pub IsHeld : {S : Type 0} → (S → List Byte → S → Type 0) → S → List Byte → S → List Byte → List Byte → Type 0
+IsHeld Took old held new holds more = (calls : ℕ) × (taken : List Byte) × HavePassed Took calls old taken new × (taken ++ holds ≡ held ++ more)
+
+-- a call of the writer failed
+abbrev pub IsRefused : {S : Type 0} → (S → S → Type 0) → S → S → DumpFault → Type 0
+IsRefused Failed old new is = (is ≡ Write) × Failed old new

@@ -1,4 +1,4 @@
-use Rattle.console.proofs.OwnLines.{all_marks, all_own}
+use Rattle.console.proofs.OwnLines.{all_marks, all_own, all_service}
 use Rattle.console.proofs.Taken.{all_commands, all_queries, all_listings}
 use Rattle.console.proofs.laws.all_that_is_spelled.Goals as goal
 
@@ -16,3 +16,6 @@ returns-clause-marks g c = all_marks _
 
 pub returns-clause-station : goal.returns-clause-station
 returns-clause-station g c = all_own _
+
+pub returns-clause-service : goal.returns-clause-service
+returns-clause-service g c = all_service _

@@ -1,4 +1,4 @@
-use Rattle.console.proofs.OwnLines.{only_marks, only_own, nothing_forbidden}
+use Rattle.console.proofs.OwnLines.{only_marks, only_own, only_service, nothing_forbidden}
 use Rattle.console.proofs.Spelled.{only_commands, only_queries, only_listings}
 use Rattle.console.proofs.laws.only_what_is_spelled.Goals as goal
 
@@ -16,6 +16,9 @@ returns-clause-marks g c = only_marks _
 
 pub returns-clause-station : goal.returns-clause-station
 returns-clause-station g c = only_own _
+
+pub returns-clause-service : goal.returns-clause-service
+returns-clause-service g c = only_service _
 
 pub returns-clause-forbidden : goal.returns-clause-forbidden
 returns-clause-forbidden g c = nothing_forbidden _

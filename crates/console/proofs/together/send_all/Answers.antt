@@ -12,7 +12,7 @@ use Rattle.console.specs.Inside.Passing.{sent_by}
 use Rattle.console.specs.Inside.Together.{answer_for, answers_for}
 use Rattle.console.proofs.AtOnce.{answers_more, answers_split}
 use Rattle.console.proofs.Talk.{texts_more, trouble_more}
-use Rattle.console.proofs.Told.{nothing_passes, part_passes, passes_by, passes_on}
+use Rattle.console.proofs.Told.{part_passes, passes_by, passes_on, still_passes}
 use Rattle.console.proofs.together.send_all.Goals as goal
 
 pub loop-k-init : goal.loop-k-init
@@ -20,7 +20,7 @@ loop-k-init g c =
     let begun = sent_by g.W.Write.contents c.args.output.now in
     record {
       page = omega (arith, c.clear.ensures.capacity);
-      told = passes_by begun begun [] [] [] [] [] c.clear.new.self.items refl refl (sym c.clear.ensures.items) (nothing_passes begun begun [] refl (λ held known. known));
+      told = passes_by begun begun [] [] [] [] [] c.clear.new.self.items refl refl (sym c.clear.ensures.items) (still_passes begun []);
       trouble = refl;
       writer = refl;
       failures = refl;

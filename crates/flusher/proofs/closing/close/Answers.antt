@@ -1,10 +1,10 @@
 use Rattle.std.proofs.Common.{List, true≢false, refl, sym, ◌∙◌, subst}
 use Rattle.std.specs.Prelude.{All}
 use Rattle.std.specs.declared.alloc.Global.{Global}
+use mathlib.Core.List.{IsPrefix}
 use Rattle.centre_core.specs.Asked.{Asked}
 use Rattle.station_queue.specs.Ends.{Taking}
 use Rattle.station_queue.specs.Order.{AreAllSent}
-use Rattle.flusher.specs.Closed.{HasSeenOf}
 use Rattle.flusher.specs.View.{view_of}
 use Rattle.flusher.specs.declared.session.Ended.{Ended}
 use Rattle.flusher.proofs.Closed.{all_closed, of_the_channels, of_the_queue}
@@ -31,5 +31,5 @@ returns-clause-closed g c =
     let total = c.total.ensures.total in
     let has = ends_are_taken (view_of f) f.stations f.flags c.requires.settled.ended (c.has_ended.ensures.0 c.if-not-has_ended.false) in
     let sent = subst (λ (t : Taking). AreAllSent t.taken total.0 t.settled) c.settle_each.ensures.settled total.1 in
-    let seen = subst (λ (q : List (Ended g.row.J.Denot) × List (Asked Global)). All (λ (e : Ended g.row.J.Denot). HasSeenOf q.1 q.1 e.viewer) q.0) (λ j. (c.deref.ensures.value j, c.published.ensures j)) c.compare-2.ensures in
+    let seen = subst (λ (q : List (Ended g.row.J.Denot) × List (Asked Global)). All (λ (e : Ended g.row.J.Denot). IsPrefix e.viewer q.1) q.0) (λ j. (c.deref.ensures.value j, c.published.ensures j)) c.wait_within_each-2.ensures in
     all_closed (view_of f) c.args.ended.items c.requires.sessions g.J.Centre.base f.taker.settled total.0 c.requires.settled has sent c.settle_each.ensures.received seen

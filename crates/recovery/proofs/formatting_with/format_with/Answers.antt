@@ -1,11 +1,14 @@
-use Rattle.std.proofs.Common.{◌≤◌, ◌∷◌, [], arith}
+use Rattle.std.proofs.Common.{◌≤◌, ◌∷◌, [], arith, refl}
 use Rattle.sector_disk.specs.Disk.{View}
 use Rattle.sector_disk.specs.declared.record.Call.TheVariants.{Sync, Write}
 use Rattle.sector_disk.proofs.Made.{made_of_more}
-use Rattle.checkpoint.specs.Layout.{disk_size, label_at}
+use Rattle.checkpoint.specs.declared.side.Side.TheVariants as side
+use Rattle.checkpoint.specs.Layout.{disk_size, half_at, label_at}
 use Rattle.checkpoint.proofs.Called.{calls_at_sync, calls_in_call, calls_in_sync}
 use Rattle.recovery.specs.Calls.{label_sector}
 use Rattle.recovery.specs.FormatWith.{filled_calls}
+use Rattle.recovery.specs.Lives.{begins}
+use Rattle.recovery.specs.Opens.{opening}
 use Rattle.recovery.proofs.Formatted.{within}
 use Rattle.recovery.proofs.FormattedWith.{filled_opens, filled_opens_to}
 use Rattle.recovery.proofs.formatting_with.format_with.Goals as goal
@@ -57,3 +60,12 @@ returns-clause-opens g c honest =
     let wrote = rw c.label_sector.ensures at (c.in_ok-write.ensures.effect (within layout sides.sectors at_sides).label (c.fill_sides.ensures.honest honest)) in
     let syncs = c.in_ok-sync.ensures.effect wrote.honest in
     filled_opens_to g.row.A.Denot layout c.args.register.now sides labelled last c.registers.ensures.state c.registers.ensures.ranges c.requires.limits (c.in_ok-fill_sides.ensures.filled honest) wrote syncs (g.met.D.Disk.sound c.sync.new.self syncs.honest) at_last
+
+pub returns-clause-begins : goal.returns-clause-begins
+returns-clause-begins g c honest =
+    let layout = c.args.layout.now in
+    let sides : View = g.D.Disk.view c.fill_sides.new.disk in
+    let at_sides : disk_size layout ≤ sides.sectors = omega (arith, c.if-sectors.false, c.sectors.ensures, c.sectors-2.ensures, c.fill_sides.ensures.sectors) in
+    let wrote = rw c.label_sector.ensures at (c.in_ok-write.ensures.effect (within layout sides.sectors at_sides).label (c.fill_sides.ensures.honest honest)) in
+    let syncs = c.in_ok-sync.ensures.effect wrote.honest in
+    begins _ syncs.honest (λ image here. record { opening = opening layout side.A 1 (half_at layout side.A) c.args.register.now; opens = returns-clause-opens g c honest image here; same = refl })

@@ -10,13 +10,19 @@ returns-in-Ok-dumped-clause-dumped g c =
     record {
       register = s.register;
       kept = λ honest. record { opening = opening s.layout s.side s.epoch s.journal.next s.register; opens = c.in-Ok.ensures.opened honest; same = refl };
-      dumped = rw (← is) c.in-Ok-dumped.ensures;
+      dumped = rw (← is) c.in-Ok-dumped.ensures.dumped;
+      written = rw (← is) c.in-Ok-dumped.ensures.written;
     }
 
 pub returns-in-Err-dumped-clause-refused : goal.returns-in-Err-dumped-clause-refused
-returns-in-Err-dumped-clause-refused g c honest =
+returns-in-Err-dumped-clause-refused g c =
     let s = c.in-Ok.store in
-    (s.register, record { opening = opening s.layout s.side s.epoch s.journal.next s.register; opens = c.in-Ok.ensures.opened honest; same = refl })
+    let is : c.unwrap.result.now ≡ s.register = borrowed c.register.result c.unwrap.result s.register (c.register.ensures.sound c.in-Ok.ensures.sound) c.unwrap.ensures in
+    record {
+      register = s.register;
+      kept = λ honest. record { opening = opening s.layout s.side s.epoch s.journal.next s.register; opens = c.in-Ok.ensures.opened honest; same = refl };
+      unwritten = rw (← is) c.in-Err-dumped.ensures.unwritten;
+    }
 
 pub returns-in-Err-clause-refused : goal.returns-in-Err-clause-refused
 returns-in-Err-clause-refused g c =

@@ -2,5 +2,5 @@ use Rattle.std.proofs.Common.{◌≡◌, length}
 use Rattle.std.specs.Prelude.{◌≤◌, vec_capacity}
 use Rattle.served_disk.proofs.pairs.ports_of.Given as goal
 
-abbrev pub invariant-loop-pair : goal.invariant-loop-pair
-invariant-loop-pair g l = (length l.ports.items ≡ l.pair-index) × (length l.pairs ≤ vec_capacity l.ports)
+abbrev pub invariant-loop-index : goal.invariant-loop-index
+invariant-loop-index g l = (length l.ports.items ≡ l.index) × (length l.pairs ≤ vec_capacity l.ports)

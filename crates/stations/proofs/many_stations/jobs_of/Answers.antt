@@ -21,7 +21,8 @@ loop-session-init g c =
       ports = rw none ports;
       ports_rest = search rules;
       sessions = rw none refl;
-      orders = rw none (All-nil (λ (j : Job g.row.J.Denot g.row.I.Denot g.row.O.Denot). j.orders ≡ may c.args.orders j.session.sender.station));
+      orders = rw none (All-nil (λ (j : Job g.row.J.Denot g.row.I.Denot g.row.O.Denot). j.orders ≡ may c.args.terms.orders j.session.sender.station));
+      turns = rw none (All-nil (λ (j : Job g.row.J.Denot g.row.I.Denot g.row.O.Denot). j.turns ≡ c.args.terms.turns));
       room = (let r = c.requires.room in let n = c.args.sessions.ok.0 in omega arith);
     }
 
@@ -59,9 +60,10 @@ loop-session-preserved g c =
     let split = subst (λ (l : List (Session g.row.J.Denot)). done ++ l ≡ c.args.sessions.items) step i.in_turn in
     let more = c.push_reserved.ensures.items in
     let of_session : Job g.row.J.Denot g.row.I.Denot g.row.O.Denot → Session g.row.J.Denot = λ j. j.session in
-    let May : Job g.row.J.Denot g.row.I.Denot g.row.O.Denot → Type 0 = λ j. j.orders ≡ may c.args.orders j.session.sender.station in
-    let new : Job g.row.J.Denot g.row.I.Denot g.row.O.Denot = record { session = session; orders = c.may-may_order.result; port = port } in
+    let May : Job g.row.J.Denot g.row.I.Denot g.row.O.Denot → Type 0 = λ j. j.orders ≡ may c.args.terms.orders j.session.sender.station in
+    let new : Job g.row.J.Denot g.row.I.Denot g.row.O.Denot = record { session = session; orders = c.may-may_order.result; turns = c.args.terms.turns; port = port } in
     let may_new : May new = search rules in
+    let Turns : Job g.row.J.Denot g.row.I.Denot g.row.O.Denot → Type 0 = λ j. j.turns ≡ c.args.terms.turns in
     let of_port : Job g.row.J.Denot g.row.I.Denot g.row.O.Denot → Port g.row.I.Denot g.row.O.Denot = λ j. j.port in
     record {
       in_turn = append_assoc done (session ∷ []) rest ∙ split;
@@ -72,6 +74,7 @@ loop-session-preserved g c =
       ports_rest = (let old = i.ports_rest in let long = ap length next in let less = c.in-Some-next.ensures.len in omega arith);
       sessions = ap (λ (l : List (Job g.row.J.Denot g.row.I.Denot g.row.O.Denot)). map of_session l) more ∙ map-append of_session jobs (new ∷ []) ∙ ap (λ l. l ++ session ∷ []) i.sessions;
       orders = subst (All May) (sym more) (All-push May jobs new i.orders may_new);
+      turns = subst (All Turns) (sym more) (All-push Turns jobs new i.turns refl);
       room = omega (arith, c.push_reserved.ensures.capacity, i.room);
     }
 
@@ -88,5 +91,6 @@ returns g c =
       sessions = i.sessions ∙ all;
       ports = sym (append-nil (map (λ (j : Job g.row.J.Denot g.row.I.Denot g.row.O.Denot). j.port) c.loop-session.jobs.items)) ∙ ap (λ l. map (λ (j : Job g.row.J.Denot g.row.I.Denot g.row.O.Denot). j.port) c.loop-session.jobs.items ++ l) (sym none) ∙ i.ports;
       orders = i.orders;
+      turns = i.turns;
       count = omega (arith, count, c.loop-session.jobs.ok.0, c.args.sessions.ok.0);
     }

@@ -10,6 +10,7 @@ invariant-loop-session g l = record {
   ports : map (λ job. job.port) l.jobs.items ++ l.ports.rest.items ≡ l.fn.ports.items;
   ports_rest : length l.ports.rest.items ≡ l.ports.rest.len;
   sessions : map (λ job. job.session) l.jobs.items ≡ l.yielded;
-  orders : All (λ job. job.orders ≡ may l.fn.orders job.session.sender.station) l.jobs.items;
+  orders : All (λ job. job.orders ≡ may l.fn.terms.orders job.session.sender.station) l.jobs.items;
+  turns : All (λ job. job.turns ≡ l.fn.terms.turns) l.jobs.items;
   room : length l.fn.sessions.items ≤ vec_capacity l.jobs;
 }

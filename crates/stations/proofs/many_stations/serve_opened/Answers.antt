@@ -1,5 +1,9 @@
 use Rattle.std.proofs.Common.{List, length, refl, sym, subst, arith}
+use Rattle.std.specs.contracts.alloc.Global as Heap
+use Rattle.std.specs.contracts.impls.GlobalAllocator.TheImpl.{ghosts}
+use Rattle.centre_core.specs.contracts.command.Command as command
 use Rattle.recovery.specs.Lives.{view_of as store_view}
+use Rattle.recovery.proofs.Determined.{stored_by}
 use Rattle.flusher.specs.Closed.{AreSessionsOf}
 use Rattle.flusher.specs.Opened.{IsNewFlusher}
 use Rattle.flusher.specs.Runs.{HasSameEnds, HasTakenEnds}
@@ -40,7 +44,7 @@ store_of-store-requires-clause-sessions g c =
     let same = subst (λ f. HasSameEnds first (view_of f)) (sym c.into_flusher.ensures) c.serve_all-held.ensures.flushed.same in
     subst (λ (l : List (Ended g.row.J.Denot)). AreSessionsOf last l) (sym c.split_done-ended.ensures.ended)
     (sessions_ended g.J.Centre.base g.I.Read.remaining g.O.Write.contents first last c.args.opened.1.items c.args.ports.items c.jobs_of-jobs.result.items
-    c.serve_all-held.result.1.items c.jobs_of-jobs.ensures.sessions c.jobs_of-jobs.ensures.ports c.requires.sessions c.serve_all-held.ensures.done c.args.orders c.jobs_of-jobs.ensures.orders same)
+    c.serve_all-held.result.1.items c.jobs_of-jobs.ensures.sessions c.jobs_of-jobs.ensures.ports c.requires.sessions c.serve_all-held.ensures.done c.args.terms.orders c.jobs_of-jobs.ensures.orders c.args.terms.turns c.jobs_of-jobs.ensures.turns same)
 
 pub returns : goal.returns
 returns g c =
@@ -48,7 +52,7 @@ returns g c =
     let last = view_of c.into_flusher.result in
     has_served g.J.Centre.base g.I.Read.remaining g.O.Write.contents first last c.args.opened.1.items c.args.ports.items c.jobs_of-jobs.result.items
     c.serve_all-held.result.1.items c.jobs_of-jobs.ensures.sessions c.jobs_of-jobs.ensures.ports c.requires.sessions c.serve_all-held.ensures.done
-    c.args.orders c.jobs_of-jobs.ensures.orders
-    g.D.Disk.view first.store (store_view c.store_of-store.result) (length c.args.ports.items) c.requires.sound refl (subst (λ n. IsNewFlusher n first.store first) c.args.ports.ok.0 c.requires.flusher)
+    c.args.terms.orders c.jobs_of-jobs.ensures.orders c.args.terms.turns c.jobs_of-jobs.ensures.turns
+    g.D.Disk.view first.store (store_view c.store_of-store.result) (length c.args.ports.items) c.requires.sound (stored_by (command.the_row Heap.the_row ghosts).coded g.met.D.Disk.sound c.args.opened.0.committer.store) refl (subst (λ n. IsNewFlusher n first.store first) c.args.ports.ok.0 c.requires.flusher)
     (subst (λ f. HasFlushed g.D.Disk.view g.J.Centre.base first (view_of f)) (sym c.into_flusher.ensures) c.serve_all-held.ensures.flushed)
     c.store_of-store.ensures.store c.split_done-ended.result.0.items c.split_done-ended.result.1.items c.split_done-ended.ensures.ended c.split_done-ended.ensures.runs c.store_of-store.ensures.closed

@@ -3,7 +3,7 @@ use Rattle.std.specs.Prelude.{map}
 use Rattle.std.proofs.lemmas.List.{map-append}
 use Rattle.flusher.specs.declared.session.Ended.{Ended}
 use Rattle.stations.specs.declared.job.Done.{Done}
-use Rattle.stations.specs.Served.{Run}
+use Rattle.stations.specs.declared.station_run.StationRun.{StationRun}
 use Rattle.stations.proofs.Places.{map_length}
 use Rattle.stations.proofs.Zipped.{fewer, whole}
 use Rattle.stations.proofs.many_stations.split_done.Goals as goal
@@ -24,18 +24,18 @@ pub push_reserved-requires : goal.push_reserved-requires
 push_reserved-requires g c =
     let i = c.loop-one.invariant in
     let step : c.loop-one.one-iterator.rest.items ≡ c.in-Some.one ∷ c.next.new.self.rest.items = search rules in
-    let split = subst (λ (l : List (Done g.row.J.Denot g.row.O.Denot)). c.loop-one.yielded ++ l ≡ c.args.done.items) step i.in_turn in
+    let split = subst (λ (l : List (Done g.row.J.Denot g.row.I.Denot g.row.O.Denot)). c.loop-one.yielded ++ l ≡ c.args.done.items) step i.in_turn in
     let few = fewer c.loop-one.yielded c.in-Some.one c.next.new.self.rest.items c.args.done.items split in
-    let count = ap length i.ended ∙ map_length (λ (d : Done g.row.J.Denot g.row.O.Denot). d.ended) c.loop-one.yielded in
+    let count = ap length i.ended ∙ map_length (λ (d : Done g.row.J.Denot g.row.I.Denot g.row.O.Denot). d.ended) c.loop-one.yielded in
     omega (arith, few, count, i.ended_room, c.loop-one.ended.ok.0)
 
 pub push_reserved-requires-in-loop-one : goal.push_reserved-requires-in-loop-one
 push_reserved-requires-in-loop-one g c =
     let i = c.loop-one.invariant in
     let step : c.loop-one.one-iterator.rest.items ≡ c.in-Some.one ∷ c.next.new.self.rest.items = search rules in
-    let split = subst (λ (l : List (Done g.row.J.Denot g.row.O.Denot)). c.loop-one.yielded ++ l ≡ c.args.done.items) step i.in_turn in
+    let split = subst (λ (l : List (Done g.row.J.Denot g.row.I.Denot g.row.O.Denot)). c.loop-one.yielded ++ l ≡ c.args.done.items) step i.in_turn in
     let few = fewer c.loop-one.yielded c.in-Some.one c.next.new.self.rest.items c.args.done.items split in
-    let given : Done g.row.J.Denot g.row.O.Denot → Run g.row.O.Denot = λ d. (d.writer, d.ran) in
+    let given : Done g.row.J.Denot g.row.I.Denot g.row.O.Denot → StationRun g.row.I.Denot g.row.O.Denot = λ d. d.run in
     let count = ap length i.runs ∙ map_length given c.loop-one.yielded in
     omega (arith, few, count, i.runs_room, c.loop-one.runs.ok.0)
 
@@ -46,9 +46,9 @@ loop-one-preserved g c =
     let one = c.in-Some.one in
     let rest = c.next.new.self.rest.items in
     let step : c.loop-one.one-iterator.rest.items ≡ one ∷ rest = search rules in
-    let split = subst (λ (l : List (Done g.row.J.Denot g.row.O.Denot)). done ++ l ≡ c.args.done.items) step i.in_turn in
-    let end : Done g.row.J.Denot g.row.O.Denot → Ended g.row.J.Denot = λ d. d.ended in
-    let given : Done g.row.J.Denot g.row.O.Denot → Run g.row.O.Denot = λ d. (d.writer, d.ran) in
+    let split = subst (λ (l : List (Done g.row.J.Denot g.row.I.Denot g.row.O.Denot)). done ++ l ≡ c.args.done.items) step i.in_turn in
+    let end : Done g.row.J.Denot g.row.I.Denot g.row.O.Denot → Ended g.row.J.Denot = λ d. d.ended in
+    let given : Done g.row.J.Denot g.row.I.Denot g.row.O.Denot → StationRun g.row.I.Denot g.row.O.Denot = λ d. d.run in
     record {
       in_turn = append_assoc done (one ∷ []) rest ∙ split;
       rest = search rules;
@@ -64,6 +64,6 @@ returns g c =
     let len : c.loop-one.one-iterator.rest.len ≡ 0 = search rules in
     let all = whole c.loop-one.yielded c.loop-one.one-iterator.rest.items c.args.done.items i.in_turn (i.rest ∙ len) in
     record {
-      ended = i.ended ∙ ap (λ (l : List (Done g.row.J.Denot g.row.O.Denot)). map (λ (d : Done g.row.J.Denot g.row.O.Denot). d.ended) l) all;
-      runs = i.runs ∙ ap (λ (l : List (Done g.row.J.Denot g.row.O.Denot)). map (λ (d : Done g.row.J.Denot g.row.O.Denot). (d.writer, d.ran)) l) all;
+      ended = i.ended ∙ ap (λ (l : List (Done g.row.J.Denot g.row.I.Denot g.row.O.Denot)). map (λ (d : Done g.row.J.Denot g.row.I.Denot g.row.O.Denot). d.ended) l) all;
+      runs = i.runs ∙ ap (λ (l : List (Done g.row.J.Denot g.row.I.Denot g.row.O.Denot)). map (λ (d : Done g.row.J.Denot g.row.I.Denot g.row.O.Denot). d.run) l) all;
     }

@@ -12,16 +12,19 @@ use Rattle.stations.proofs.station_job.serve.Goals as goal
 
 pub returns : goal.returns
 returns g c =
-    let ran = c.run_station-session in
+    let ran = c.run_port-session in
     let session = ran.result.0 in
     let end = c.finish-ended.ensures in (
       view_of session,
       record {
         run = ran.ensures.answers;
+        told = ran.ensures.told;
+        ends = ran.ensures.ends;
         sender = subst (λ (q : TableId × Station). c.finish-ended.result.sender ≡ sending q.0 q.1 (session.sender.sent ++ entry.Ended q.1 ∷ [])) (λ i. (ran.ensures.same.0 i, ran.ensures.same.1 i)) end.sent;
         received = ap (λ (r : AnswerReceiver Sent). received_of r.pass) end.same.0;
         channel = ap (λ (r : AnswerReceiver Sent). receives_on r.channel) end.same.0 ∙ ran.ensures.same.2;
         seen = end.same.1;
         submits = ran.ensures.submits;
+        memory = λ out. ap view_of (ran.ensures.memory out);
       },
     )

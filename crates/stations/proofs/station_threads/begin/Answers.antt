@@ -15,5 +15,5 @@ spawn_with-requires-send-T g c κs within = search (sendable, done_send) depth 2
 
 pub returns-in-Err : goal.returns-in-Err
 returns-in-Err g c =
-    subst (λ (q : Job g.row.J.Denot g.row.I.Denot g.row.O.Denot × Done g.row.J.Denot g.row.O.Denot). IsDone g.row.J.Denot g.J.Centre.base g.I.Read.remaining g.O.Write.contents q.0 q.1)
+    subst (λ (q : Job g.row.J.Denot g.row.I.Denot g.row.O.Denot × Done g.row.J.Denot g.row.I.Denot g.row.O.Denot). IsDone g.row.J.Denot g.J.Centre.base g.I.Read.remaining g.O.Write.contents q.0 q.1)
     (λ i. ((c.in-Err.ensures.err i).1, (sym c.spawn_with-in-Err.ensures.said-raw.1.1.1) i)) c.spawn_with-in-Err.ensures.said-raw.1.1.0.ensures

@@ -11,7 +11,7 @@ end_all-requires-clause-room g c = omega (arith, c.begin_all-begun.ensures.count
 pub returns-clause-done : goal.returns-clause-done
 returns-clause-done g c =
     through c.args.jobs.items c.begin_all-begun.result.items c.end_all.result.items _ _ _
-    (λ (job : Job g.row.J.Denot g.row.I.Denot g.row.O.Denot) b (done : Done g.row.J.Denot g.row.O.Denot). either_way b
+    (λ (job : Job g.row.J.Denot g.row.I.Denot g.row.O.Denot) b (done : Done g.row.J.Denot g.row.I.Denot g.row.O.Denot). either_way b
     (λ h same kept. subst (λ (j : Job g.row.J.Denot g.row.I.Denot g.row.O.Denot). IsDone g.row.J.Denot g.J.Centre.base g.I.Read.remaining g.O.Write.contents j done) same kept)
-    (λ d made same. subst (λ (x : Done g.row.J.Denot g.row.O.Denot). IsDone g.row.J.Denot g.J.Centre.base g.I.Read.remaining g.O.Write.contents job x) (sym same) made))
+    (λ d made same. subst (λ (x : Done g.row.J.Denot g.row.I.Denot g.row.O.Denot). IsDone g.row.J.Denot g.J.Centre.base g.I.Read.remaining g.O.Write.contents job x) (sym same) made))
     c.begin_all-begun.ensures.begun c.end_all.ensures

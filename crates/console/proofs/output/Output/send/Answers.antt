@@ -1,8 +1,9 @@
-use Rattle.std.proofs.Common.{◌+◌, ◌-◌, [], length, take, drop, refl, ◌∙◌, arith}
+use Rattle.std.proofs.Common.{ℕ, ◌+◌, ◌-◌, [], length, take, drop, refl, ◌∙◌, arith}
 use Rattle.std.proofs.lemmas.Grind.{common_steps}
-use Rattle.mailbox.proofs.Results.{known_err, known_ok}
+use Rattle.std.proofs.lemmas.Result.{on_err_weaker, on_ok_weaker}
+use Rattle.mailbox.proofs.Results.{known_err}
 use Rattle.console.specs.Inside.Passing.{sent_by}
-use Rattle.console.proofs.Told.{nothing_passes, passes_by, passes_on, write_passes}
+use Rattle.console.proofs.Told.{failed_once, failure_passes, flush_fails, flush_passes, passes_by, passes_on, still_passes, write_passes}
 use Rattle.console.proofs.Writing.{left_of, left_later, none_left}
 use Rattle.console.proofs.output.Output.send.Goals as goal
 
@@ -12,7 +13,7 @@ loop-at-init g c = (
   refl,
   refl,
   refl,
-  nothing_passes (sent_by g.W.Write.contents c.args.self.now) _ c.args.bytes.now refl (λ held known. known),
+  still_passes (sent_by g.W.Write.contents c.args.self.now) c.args.bytes.now,
 )
 
 pub returns-in_err-at-clause-err : goal.returns-in_err-at-clause-err
@@ -22,7 +23,7 @@ returns-in_err-at-clause-err g c =
     known_err c.from_residual.result (
       left,
       passes_on (sent_by contents c.args.self.now) (sent_by contents c.loop-at.self) (sent_by contents c.write.new.self) c.args.bytes.now [] left [] left c.loop-at.invariant.4
-          (nothing_passes _ _ left c.in_err-at.ensures.silent c.in_err-at.ensures.err),
+          (failure_passes _ _ left c.in_err-at.ensures.noted (failed_once ℕ c.in_err-at.field-0.0 c.loop-at.self.failures.now c.write.new.self.failures.now c.in_err-at.ensures.plain c.in_err-at.ensures.ledger) c.in_err-at.ensures.err),
     )
 
 pub loop-at-preserved : goal.loop-at-preserved
@@ -38,7 +39,7 @@ loop-at-preserved g c =
       omega (arith, c.in_ok-at.ensures.ledger, c.loop-at.invariant.3),
       passes_on (sent_by contents c.args.self.now) (sent_by contents c.loop-at.self) (sent_by contents c.write.new.self) bytes [] (drop at bytes) [] (drop (at + n) bytes) c.loop-at.invariant.4
           (passes_by _ _ waits [] (drop n waits) (drop at bytes) [] (drop (at + n) bytes) (left_of bytes at) refl (left_later bytes at n)
-          (write_passes _ _ waits n c.in_ok-at.ensures.events c.in_ok-at.ensures.ok)),
+          (write_passes _ _ waits n c.in_ok-at.ensures.events (omega (arith, c.in_ok-at.ensures.ledger)) c.in_ok-at.ensures.ok)),
     )
 
 pub returns-clause-ok : goal.returns-clause-ok
@@ -46,16 +47,16 @@ returns-clause-ok g c =
     let contents = g.W.Write.contents in
     let bytes = c.args.bytes.now in
     let left = drop c.loop-at.at bytes in
-    known_ok c.flush.result (passes_by _ _ bytes [] left bytes [] [] refl refl (none_left bytes c.loop-at.at (omega (arith, c.loop-at.invariant.0, c.loop-at-test.false)))
-    (passes_on (sent_by contents c.args.self.now) (sent_by contents c.loop-at.self) (sent_by contents c.flush.new.self) bytes [] left [] left c.loop-at.invariant.4
-    (nothing_passes _ _ left c.flush.ensures.silent c.flush.ensures.keeps)))
+    on_ok_weaker c.flush.result (λ flushed. passes_by _ _ bytes [] left bytes [] [] refl refl (none_left bytes c.loop-at.at (omega (arith, c.loop-at.invariant.0, c.loop-at-test.false)))
+    (passes_on (sent_by contents c.args.self.now) (sent_by contents c.loop-at.self) (sent_by contents c.flush.new.self) bytes [] left [] left c.loop-at.invariant.4 flushed))
+    (flush_passes c.flush.result (sent_by contents c.loop-at.self) (sent_by contents c.flush.new.self) left c.flush.ensures.silent c.flush.ensures.ledger c.flush.ensures.keeps)
 
 pub returns-clause-err : goal.returns-clause-err
 returns-clause-err g c =
     let contents = g.W.Write.contents in
     let left = drop c.loop-at.at c.args.bytes.now in
-    known_err c.flush.result (
+    on_err_weaker c.flush.result (λ failed. (
       left,
-      passes_on (sent_by contents c.args.self.now) (sent_by contents c.loop-at.self) (sent_by contents c.flush.new.self) c.args.bytes.now [] left [] left c.loop-at.invariant.4
-          (nothing_passes _ _ left c.flush.ensures.silent c.flush.ensures.keeps),
-    )
+      passes_on (sent_by contents c.args.self.now) (sent_by contents c.loop-at.self) (sent_by contents c.flush.new.self) c.args.bytes.now [] left [] left c.loop-at.invariant.4 failed,
+    ))
+    (flush_fails c.flush.result (sent_by contents c.loop-at.self) (sent_by contents c.flush.new.self) left c.flush.ensures.noted c.flush.ensures.plain c.flush.ensures.ledger c.flush.ensures.keeps)

@@ -8,3 +8,8 @@ pub returns-in-Listed : goal.returns-in-Listed
 returns-in-Listed g c =
     let bytes = c.args.self.now.bytes.items in
     (answer.Listed bytes, inl (sym (ap (λ (given : Given g.row.B.Denot). answer_of bytes given) c.in-Listed.is)), refl, refl)
+
+pub returns-in-Service : goal.returns-in-Service
+returns-in-Service g c =
+    let bytes = c.args.self.now.bytes.items in
+    (answer.Service bytes, inl (sym (ap (λ (given : Given g.row.B.Denot). answer_of bytes given) c.in-Service.is)), refl, refl)

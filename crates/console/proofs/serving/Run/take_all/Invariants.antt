@@ -1,6 +1,6 @@
 use Rattle.std.proofs.Common.{◌≡◌, ◌++◌, ◌+◌, ◌*◌, ◌≤◌, List, ℕ, Some}
-use Rattle.console.specs.Told.{all_read}
-use Rattle.console.specs.Inside.Feed.{IsGoing, IsSameRun, reached_by, start_at}
+use Rattle.console.specs.Told.{all_read, calls_of}
+use Rattle.console.specs.Inside.Feed.{HasCalled, IsGoing, IsSameRun, reached_by, start_at}
 use Rattle.console.specs.Inside.Passing.{sent_by}
 use Rattle.console.proofs.serving.Run.take_all.Given as goal
 
@@ -15,3 +15,4 @@ invariant-loop g l = (l.self.progress.now.lines ≤ 65536 * l.counter) × (l.inp
     × (l.input.reader.ghost_name ≡ l.fn.input.reader.ghost_name) × (l.input.steps.ghost_name ≡ l.fn.input.steps.ghost_name) × (l.input.faults.ghost_name ≡ l.fn.input.faults.ghost_name)
     × (l.self.output.now.failures.now ≡ l.fn.self.output.now.failures.now)
     × IsSameRun l.fn.self l.self
+    × HasCalled (calls_of l.fn.input) (calls_of l.input) l.counter

@@ -18,6 +18,7 @@ use Rattle.flusher.proofs.Endings.{ended_after}
 use Rattle.flusher.proofs.ByItself.{round_order, round_sent}
 use Rattle.flusher.proofs.Batched.{commands_among-append, length-ended}
 use Rattle.flusher.proofs.Kept.{keeps_self, stored_on, stored_still}
+use Rattle.flusher.proofs.RoundCalls.{round_call}
 use Rattle.flusher.proofs.Published.{unless, when}
 use Rattle.flusher.proofs.Served.{served_idle}
 use Rattle.flusher.proofs.flusher.Flusher.round.Goals as goal
@@ -200,3 +201,16 @@ returns-then-level-clause-later g c = c.commit_and_answer.ensures.fails.later
 
 pub returns-clause-any_moment : goal.returns-clause-any_moment
 returns-clause-any_moment g c h up = (keeps_self g.D.Disk.view (store_view c.args.self.now.committer.store) (g.met.D.Disk.sound c.args.self.now.committer.store.disk) h.honest (h.sound up)).any_moment
+
+pub returns-then-level-clause-call : goal.returns-then-level-clause-call
+returns-then-level-clause-call g c h =
+    let s = c.requires.settled in
+    round_call g.D.Disk.view g.J.Centre.base (view_of c.args.self.now) _ (returns-then-level-clause-round g c) s.made s.order (returns-then-level-clause-settled g c) c.args.self.now.committer.store.broken refl
+    (λ up. c.commit_and_answer.ensures.images h.honest (h.sound up))
+
+pub returns-clause-call : goal.returns-clause-call
+returns-clause-call g c h =
+    let s = c.requires.settled in
+    let store = store_view c.args.self.now.committer.store in
+    round_call g.D.Disk.view g.J.Centre.base (view_of c.args.self.now) _ (returns-clause-round g c) s.made s.order (returns-clause-settled g c) store.broken refl
+    (λ up. keeps_self g.D.Disk.view store (g.met.D.Disk.sound store.disk) h.honest (h.sound up))

@@ -1,5 +1,6 @@
 use Rattle.std.proofs.Common.{◌≡◌, ◌+◌, length, ap, sym, ◌∙◌, arith}
 use Rattle.gated_journal.specs.declared.place.Place.{Place}
+use Rattle.recovery.proofs.InCall.{in_call}
 use Rattle.recovery.proofs.Recorded.{ok_part}
 use Rattle.recovery.proofs.Stored.{append_leaves, settled, some_sectors, stored_append}
 use Rattle.recovery.proofs.store.Store.append_one.Goals as goal
@@ -26,6 +27,7 @@ invariant_of-self-else-is_err g c =
       next = omega (arith, next, c.requires.fits, some_sectors g.row.A.Denot c.args.self.now.journal c.args.accepted.now, c.args.self.now.end);
       counts = omega (arith, ap (λ (p : Place). p.count) is, c.requires.counted);
       other = rw c.requires.idle tt;
+      stored = in_call c.args.self.now.broken c.requires.in_call;
     }
 
 pub returns-clause-kept : goal.returns-clause-kept

@@ -3,6 +3,7 @@ use Rattle.checkpoint.specs.Layout.{other_of}
 use Rattle.checkpoint.proofs.Apart.{lies}
 use Rattle.gated_journal.specs.declared.place.Place.{Place}
 use Rattle.recovery.proofs.Called.{recorded_by_both}
+use Rattle.recovery.proofs.InCall.{in_call}
 use Rattle.recovery.proofs.Recorded.{also_after, apart, belongs_after, both_leaves, fault_part, fits_other, kept_both, ok_part, place_after, root_before, settled_also, settled_this, some_of}
 use Rattle.recovery.proofs.Stored.{some_sectors}
 use Rattle.recovery.proofs.store.Store.append_two.Goals as goal
@@ -50,6 +51,7 @@ invariant_of-self-else-is_err g c =
       next = omega (arith, next, c.requires.fits, some_sectors g.row.A.Denot c.args.self.now.journal c.args.accepted.now, c.args.self.now.end);
       counts = omega (arith, ap (λ (p : Place). p.count) is, c.requires.counted);
       other = belongs_after c.args.self.now.layout c.args.self.now.side c.args.self.now.epoch c.args.self.now.journal c.args.self.now.register.count some.0 c.args.self.now.first c.args.self.now.end belongs c.args.accepted.now c.requires.fits c.append_ongoing-added.new.journal _ c.append_ongoing-added.new.ongoing is refl next_is counted;
+      stored = in_call c.args.self.now.broken c.requires.in_call;
     }
 
 pub returns-then-is_err-clause-any_moment : goal.returns-then-is_err-clause-any_moment
@@ -95,7 +97,7 @@ returns-clause-calls g c =
     rw (some.1, recorded_by_both g.row.A.Denot c.args.self.now.journal some.0 c.args.accepted.now c.requires.some) made
 
 pub returns-then-is_err-clause-fault : goal.returns-then-is_err-clause-fault
-returns-then-is_err-clause-fault g c = (refl, fault_part _ c.append_ongoing-added.result (sym c.is_err.ensures.value ∙ c.if-is_err.true) c.append_ongoing-added.ensures.fault, refl)
+returns-then-is_err-clause-fault g c = (refl, fault_part _ c.append_ongoing-added.result (sym c.is_err.ensures.value ∙ c.if-is_err.true) c.append_ongoing-added.ensures.fault)
 
 pub returns-clause-kept : goal.returns-clause-kept
 returns-clause-kept g c = λ state history honest kept.

@@ -1,10 +1,12 @@
-use Rattle.std.proofs.Common.{◌≡◌, ◌+◌, [], false, refl, rules}
+use Rattle.std.proofs.Common.{◌≡◌, ◌+◌, [], true, false, refl, rules}
 use Rattle.std.proofs.lemmas.Bool.{true≢false}
+use mathlib.Core.Logic.{∥∥₁_map}
 use Rattle.checkpoint.specs.Layout.{other_of}
 use Rattle.sector_disk.proofs.Made.{made_none}
 use Rattle.recovery.proofs.Stored.{in_checkpoint, stored_fresh, nothing_done}
 use Rattle.recovery.specs.Stored.{fresh_place}
 use Rattle.recovery.specs.Lives.{fails, view_of}
+use Rattle.recovery.proofs.InCall.{in_call}
 use Rattle.recovery.proofs.Events.{none_accepted, nothing_accepted}
 use Rattle.recovery.proofs.store.Store.checkpoint.Goals as goal
 
@@ -38,6 +40,29 @@ returns-in-Ok-clause-kept g c = λ honest stored.
           (c.in-Ok.ensures.switched c.args.self.now.journal.form (c.args.self.now.epoch, stored.stored.base) (stored.stored.entries, c.args.self.now.journal.next) refl honest stored.stored.each));
       under_way = tt;
     }
+
+pub invariant_of-self-clause-stored : goal.invariant_of-self-clause-stored
+invariant_of-self-clause-stored g c = ∥∥₁_map c.args.self.now.stored (λ is whole found.
+    let was = is c.if-self.false found in
+    let stored = was.1.stored in
+    let side : c.other-self.result ≡ other_of c.args.self.now.side = c.other-self.ensures in
+    let journal : c.restart.new.self ≡ fresh_place c.args.self.now.layout (other_of c.args.self.now.side) c.args.self.now.register.count = search rules in (
+      c.write_side.ensures.honest was.0,
+      record {
+        stored = rw (journal, side) (stored_fresh g.row.A.Denot c.args.self.now.layout (other_of c.args.self.now.side) (c.args.self.now.epoch + 1) c.args.self.now.register (g.D.Disk.view c.write_side.new.disk)
+            (c.in-Ok.ensures.switched c.args.self.now.journal.form (c.args.self.now.epoch, stored.base) (stored.entries, c.args.self.now.journal.next) refl was.0 stored.each));
+        under_way = tt;
+      },
+    ))
+
+pub invariant_of-self-in-Err-EpochsUsedUp-clause-stored : goal.invariant_of-self-in-Err-EpochsUsedUp-clause-stored
+invariant_of-self-in-Err-EpochsUsedUp-clause-stored g c = ∥∥₁_map c.args.self.now.stored (λ is whole found.
+    let was = is c.if-self.false found in
+    let same : c.write_side.new.disk ≡ c.args.self.now.disk = search rules in
+    (c.write_side.ensures.honest was.0, record { stored = rw same was.1.stored; under_way = tt }))
+
+pub invariant_of-self-in-Err-DiskFault-clause-stored : goal.invariant_of-self-in-Err-DiskFault-clause-stored
+invariant_of-self-in-Err-DiskFault-clause-stored g c = in_call true refl
 
 pub returns-then-self-clause-some_calls : goal.returns-then-self-clause-some_calls
 returns-then-self-clause-some_calls g c = λ honest. made_none (g.D.Disk.view c.args.self.now.disk) _

@@ -1,4 +1,5 @@
-use Rattle.std.proofs.Common.{rules, sym, refl, ◌≡◌, [], false, inr, length, ◌∙◌, arith}
+use mathlib.Core.Logic.{∥∥₁_map}
+use Rattle.std.proofs.Common.{rules, sym, subst, refl, ◌≡◌, [], true, false, inr, length, ◌∙◌, arith}
 use Rattle.std.proofs.lemmas.Bool.{true≢false}
 use mathlib.Core.Bool.{false≢true}
 use Rattle.std.proofs.lemmas.List.{append-nil, nil_from_length}
@@ -7,9 +8,10 @@ use Rattle.recovery.proofs.Stored.{batch_done, fewer_fit, stored_opens, no_lengt
 use Rattle.sector_disk.proofs.Made.{made_none}
 use Rattle.gated_journal.specs.Record.{given}
 use Rattle.recovery.proofs.Batches.{recorded_after, none_recorded}
-use Rattle.recovery.proofs.Committed.{batch_history, batch_leaves, batch_kept, batch_made, belongs_later, counts_ongoing, it_fits, no_room, kept_from, none_kept}
+use Rattle.recovery.proofs.Committed.{batch_history, batch_leaves, batch_kept, batch_made, belongs_later, counts_ongoing, it_fits, no_room, kept_from, kept_so, none_kept}
 use Rattle.recovery.specs.Outcomes.{asked}
 use Rattle.recovery.specs.Lives.{IsUnansweredCall, view_of}
+use Rattle.recovery.proofs.InCall.{in_call}
 use Rattle.recovery.proofs.Events.{answered_later, is_answered, is_unanswered, nothing_accepted, unanswered_idle}
 use Rattle.recovery.proofs.store.Store.commit.Goals as goal
 
@@ -92,6 +94,7 @@ invariant_of-self g c =
       next = self.next;
       counts = omega (arith, self.counts, c.apply_all.ensures.counted);
       other = belongs_later self.layout self.side self.epoch self.journal self.register.count c.apply_all.new.register.count self.ongoing self.other (omega (arith, c.apply_all.ensures.counted));
+      stored = in_call true refl;
     }
 
 pub keep-requires-clause-fits : goal.keep-requires-clause-fits
@@ -130,13 +133,32 @@ returns-clause-kept g c = λ honest stored.
     let self = c.keep.new.self in
     batch_kept g.row.A.Denot self.layout self.side self.epoch self.journal self.ongoing t self.register (g.D.Disk.view self.disk) c.keep.ensures.same.1 (c.in_ok-keep.ensures.kept s history made honest stored)
 
+pub invariant_of-self-2 : goal.invariant_of-self-2
+invariant_of-self-2 g c =
+    let s = c.args.self.now.register in
+    let t = c.apply_all.new.register in
+    let history = batch_history s t c.deref.result.now c.apply_all.new.accepted.items c.deref.ensures.value c.apply_all.ensures.history in
+    let made = batch_made s t c.deref.result.now c.apply_all.new.accepted.items c.deref.ensures.value c.apply_all.ensures.state in
+    let self = c.keep.new.self in
+    record {
+      room = self.room;
+      limits = self.limits;
+      first = self.first;
+      end = self.end;
+      next = self.next;
+      counts = self.counts;
+      other = self.other;
+      stored = ∥∥₁_map c.args.self.now.stored (λ is whole found.
+          let was = is c.if-self.false (subst (λ (disk : g.row.D.Denot). (g.D.Disk.view disk).honest) c.keep.ensures.same.3 found) in (
+            c.keep.ensures.honest was.0,
+            batch_kept g.row.A.Denot self.layout self.side self.epoch self.journal self.ongoing t self.register (g.D.Disk.view self.disk) c.keep.ensures.same.1 (c.in_ok-keep.ensures.kept s history made was.0 was.1),
+          ));
+    }
+
 pub returns-clause-acknowledged : goal.returns-clause-acknowledged
 returns-clause-acknowledged g c = λ honest stored.
     let self = c.keep.new.self in
     stored_opens g.row.A.Denot self.layout self.side self.epoch self.journal self.register (g.D.Disk.view self.disk) (returns-clause-kept g c honest stored).stored
-
-pub returns-clause-sound : goal.returns-clause-sound
-returns-clause-sound g c = c.in_ok-keep.ensures.sound ∙ c.if-self.false
 
 pub returns-in_err-keep-clause-register : goal.returns-in_err-keep-clause-register
 returns-in_err-keep-clause-register g c =
@@ -180,7 +202,8 @@ returns-clause-calls g c = λ honest.
     let these = given g.row.A.Denot c.deref.result.now in
     let recorded = recorded_after g.row.A.Denot self.register self.register c.apply_all.new.register c.keep.new.self.register (asked c.args.commands.now) c.deref.result.now c.apply_all.new.accepted.items refl c.deref.ensures.value c.keep.ensures.same.1 c.apply_all.ensures.recorded in
     let kept = kept_from _ (view_of self) (view_of c.keep.new.self) these c.in_ok-keep.ensures.goes refl refl refl refl refl in
-    (these, recorded, kept, c.in_ok-keep.ensures.calls honest)
+    let last = kept_so (view_of c.keep.new.self) false (view_of self) these kept in
+    (these, recorded, last, c.in_ok-keep.ensures.calls honest)
 
 pub returns-clause-calls_on_any_disk : goal.returns-clause-calls_on_any_disk
 returns-clause-calls_on_any_disk g c =
@@ -188,8 +211,9 @@ returns-clause-calls_on_any_disk g c =
     let these = given g.row.A.Denot c.deref.result.now in
     let recorded = recorded_after g.row.A.Denot self.register self.register c.apply_all.new.register c.keep.new.self.register (asked c.args.commands.now) c.deref.result.now c.apply_all.new.accepted.items refl c.deref.ensures.value c.keep.ensures.same.1 c.apply_all.ensures.recorded in
     let kept = kept_from _ (view_of self) (view_of c.keep.new.self) these c.in_ok-keep.ensures.goes refl refl refl refl refl in
+    let last = kept_so (view_of c.keep.new.self) false (view_of self) these kept in
     let all = c.in_ok-keep.ensures.calls_on_any_disk in
-    (these, all.0, recorded, kept, all.1)
+    (these, all.0, recorded, last, all.1)
 
 -- ---- the life of the disk
 
@@ -217,7 +241,7 @@ pub returns-in_err-keep-clause-unanswered : goal.returns-in_err-keep-clause-unan
 returns-in_err-keep-clause-unanswered g c =
     let call : (g.D.Disk.view c.args.self.now.disk).honest → IsUnansweredCall g.row.A.Denot g.D.Disk.view (view_of c.args.self.now) (asked c.args.commands.now) (view_of c.keep.new.self) = λ honest.
     is_unanswered g.row.A.Denot g.D.Disk.view (view_of c.args.self.now) (view_of c.keep.new.self) (asked c.args.commands.now) (c.keep.ensures.honest honest)
-    (returns-in_err-keep-clause-any_moment g c honest) (λ whole stored. absurd (true≢false (sym c.in_err-keep.ensures.fault.2 ∙ whole))) c.if-self.false
+    (returns-in_err-keep-clause-any_moment g c honest) (λ whole stored. absurd (true≢false (sym c.keep.ensures.in_call ∙ whole))) c.if-self.false
     (returns-in_err-keep-clause-some_calls g c honest).0 (returns-in_err-keep-clause-some_calls g c honest).2 in
     known_err _ call
 
@@ -228,7 +252,7 @@ returns-then-is_empty-clause-answered g c = λ honest.
 
 pub returns-clause-answered : goal.returns-clause-answered
 returns-clause-answered g c = λ honest.
-    is_answered g.row.A.Denot g.D.Disk.view (view_of c.args.self.now) (view_of c.keep.new.self) (asked c.args.commands.now) (c.keep.ensures.honest honest)
+    is_answered g.row.A.Denot g.D.Disk.view (view_of c.args.self.now) (record (view_of c.keep.new.self) { broken = false }) (asked c.args.commands.now) (c.keep.ensures.honest honest)
     (returns-clause-any_moment g c honest) (λ whole. returns-clause-kept g c honest) c.if-self.false
     c.apply_all.new.outcomes.items (answered_later c.args.self.now.register c.args.self.now.register c.apply_all.new.register c.keep.new.self.register (asked c.args.commands.now) c.apply_all.new.outcomes.items refl c.keep.ensures.same.1 c.apply_all.ensures.answered)
-    (returns-clause-sound g c)
+    refl

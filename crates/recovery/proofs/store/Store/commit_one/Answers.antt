@@ -1,4 +1,5 @@
-use Rattle.std.proofs.Common.{◌∷◌, [], false, inl, refl, sym, ap, ◌≡◌, true, length, ◌∙◌, arith}
+use mathlib.Core.Logic.{∥∥₁_map}
+use Rattle.std.proofs.Common.{◌∷◌, [], false, inl, refl, sym, subst, ap, ◌≡◌, true, length, ◌∙◌, arith}
 use Rattle.std.specs.Prelude.{is_some}
 use Rattle.std.proofs.lemmas.Bool.{true≢false}
 use Rattle.sector_disk.proofs.Made.{made_none, made_of_more}
@@ -11,7 +12,8 @@ use Rattle.recovery.specs.Calls.{fits_in, room_calls, room_calls_by}
 use Rattle.recovery.specs.AfterCommit.{with_room}
 use Rattle.recovery.specs.Lives.{view_of}
 use Rattle.recovery.proofs.Batches.{ends_counted, ends_history, ends_recorded, ends_size, ends_state, none_recorded, recorded_after}
-use Rattle.recovery.proofs.Committed.{batch_kept, begins_none, belongs_later, counts_ongoing, desk_leaves, it_fits, kept_from, made_then, room_calls_are, room_calls_read, room_kept, room_may, some_then}
+use Rattle.recovery.proofs.Committed.{batch_kept, begins_none, belongs_later, counts_ongoing, desk_leaves, it_fits, kept_from, kept_so, made_then, room_calls_are, room_calls_read, room_kept, room_may, some_then}
+use Rattle.recovery.proofs.InCall.{in_call}
 use Rattle.recovery.proofs.Limited.{result_limits}
 use Rattle.recovery.proofs.OneCommand.{after_one, by_room, err_part, few_kept, one_ends, result_counts}
 use Rattle.recovery.proofs.Stored.{fewer_fit, nothing_done, only_before}
@@ -74,31 +76,31 @@ returns-in_err-make_room-clause-some_calls_on_any_disk g c =
       made_of_more old (g.D.Disk.view c.make_room.new.self.disk) (room_calls_by self.layout self.side self.epoch self.register all.0 fits) [] all.1,
     )
 
-pub returns-in_err-reply-clause-register : goal.returns-in_err-reply-clause-register
-returns-in_err-reply-clause-register g c = inl (c.in_err-reply.ensures.err ∙ c.make_room.ensures.same.1)
+pub returns-in_default-clause-register : goal.returns-in_default-clause-register
+returns-in_default-clause-register g c = inl (c.in_default.ensures.err ∙ c.make_room.ensures.same.1)
 
-pub returns-in_err-reply-clause-any_moment : goal.returns-in_err-reply-clause-any_moment
-returns-in_err-reply-clause-any_moment g c = λ honest stored.
+pub returns-in_default-clause-any_moment : goal.returns-in_default-clause-any_moment
+returns-in_default-clause-any_moment g c = λ honest stored.
     only_before g.row.A.Denot c.args.self.now.register c.apply.new.self (g.D.Disk.view c.args.self.now.disk) (g.D.Disk.view c.make_room.new.self.disk) (c.make_room.ensures.any_moment honest stored)
 
-pub returns-in_err-reply-clause-kept : goal.returns-in_err-reply-clause-kept
-returns-in_err-reply-clause-kept g c = λ sound honest stored. rw c.in_err-reply.ensures.err (c.in_ok-make_room.ensures.kept honest stored)
+pub returns-in_default-clause-kept : goal.returns-in_default-clause-kept
+returns-in_default-clause-kept g c = λ sound honest stored. rw c.in_default.ensures.err (c.in_ok-make_room.ensures.kept honest stored)
 
-pub returns-in_err-reply-clause-some_calls : goal.returns-in_err-reply-clause-some_calls
-returns-in_err-reply-clause-some_calls g c = λ honest.
+pub returns-in_default-clause-some_calls : goal.returns-in_default-clause-some_calls
+returns-in_default-clause-some_calls g c = λ honest.
     let self = c.args.self.now in
     let fits = fits_in g.row.A.Denot self.journal (c.args.command ∷ []) in
     let old = g.D.Disk.view self.disk in (
       [],
       false,
       false,
-      none_recorded g.row.A.Denot self.register c.apply.new.self (c.args.command.now ∷ []) (c.in_err-reply.ensures.err ∙ c.make_room.ensures.same.1),
+      none_recorded g.row.A.Denot self.register c.apply.new.self (c.args.command.now ∷ []) (c.in_default.ensures.err ∙ c.make_room.ensures.same.1),
       begins_none (view_of self) fits [],
       made_of_more old (g.D.Disk.view c.make_room.new.self.disk) (room_calls self.layout self.side self.epoch self.register old.reads fits) [] (c.make_room.ensures.some_calls honest),
     )
 
-pub returns-in_err-reply-clause-some_calls_on_any_disk : goal.returns-in_err-reply-clause-some_calls_on_any_disk
-returns-in_err-reply-clause-some_calls_on_any_disk g c =
+pub returns-in_default-clause-some_calls_on_any_disk : goal.returns-in_default-clause-some_calls_on_any_disk
+returns-in_default-clause-some_calls_on_any_disk g c =
     let self = c.args.self.now in
     let fits = fits_in g.row.A.Denot self.journal (c.args.command ∷ []) in
     let old = g.D.Disk.view self.disk in
@@ -107,7 +109,7 @@ returns-in_err-reply-clause-some_calls_on_any_disk g c =
       false,
       all.0,
       false,
-      none_recorded g.row.A.Denot self.register c.apply.new.self (c.args.command.now ∷ []) (c.in_err-reply.ensures.err ∙ c.make_room.ensures.same.1),
+      none_recorded g.row.A.Denot self.register c.apply.new.self (c.args.command.now ∷ []) (c.in_default.ensures.err ∙ c.make_room.ensures.same.1),
       begins_none (view_of self) fits [],
       made_of_more old (g.D.Disk.view c.make_room.new.self.disk) (room_calls_by self.layout self.side self.epoch self.register all.0 fits) [] all.1,
     )
@@ -124,22 +126,23 @@ invariant_of-self g c =
       next = self.next;
       counts = omega (arith, self.counts, more);
       other = belongs_later self.layout self.side self.epoch self.journal self.register.count c.apply.new.self.count self.ongoing self.other more;
+      stored = in_call true refl;
     }
 
 pub keep-requires-clause-few : goal.keep-requires-clause-few
-keep-requires-clause-few g c = few_kept (is_acceptance c.in_ok-reply.reply) c.args.command c.if_accepted.result.now c.if_accepted.ensures
+keep-requires-clause-few g c = few_kept (is_acceptance c.in-Ok.reply) c.args.command c.if_accepted.result.now c.if_accepted.ensures
 
 pub keep-requires-clause-fits : goal.keep-requires-clause-fits
 keep-requires-clause-fits g c =
     let kept = c.if_accepted.result.now in
-    let ends = one_ends c.make_room.new.self.register c.apply.new.self c.in_ok-reply.reply c.args.command.now c.in_ok-reply.ensures.ok c.args.command kept refl c.if_accepted.ensures in
-    fewer_fit g.row.A.Denot c.make_room.new.self.journal kept kept (c.args.command ∷ []) _ refl (ends_size c.make_room.new.self.register c.apply.new.self (c.args.command ∷ []) kept (Replied c.in_ok-reply.reply ∷ []) ends) c.in_ok-make_room.ensures.fits
+    let ends = one_ends c.make_room.new.self.register c.apply.new.self c.in-Ok.reply c.args.command.now c.in-Ok.ensures.ok c.args.command kept refl c.if_accepted.ensures in
+    fewer_fit g.row.A.Denot c.make_room.new.self.journal kept kept (c.args.command ∷ []) _ refl (ends_size c.make_room.new.self.register c.apply.new.self (c.args.command ∷ []) kept (Replied c.in-Ok.reply ∷ []) ends) c.in_ok-make_room.ensures.fits
 
 pub keep-requires-clause-counted : goal.keep-requires-clause-counted
 keep-requires-clause-counted g c =
     let kept = c.if_accepted.result.now in
-    let ends = one_ends c.make_room.new.self.register c.apply.new.self c.in_ok-reply.reply c.args.command.now c.in_ok-reply.ensures.ok c.args.command kept refl c.if_accepted.ensures in
-    omega (arith, ends_counted c.make_room.new.self.register c.apply.new.self (c.args.command ∷ []) kept (Replied c.in_ok-reply.reply ∷ []) ends, c.make_room.new.self.counts)
+    let ends = one_ends c.make_room.new.self.register c.apply.new.self c.in-Ok.reply c.args.command.now c.in-Ok.ensures.ok c.args.command kept refl c.if_accepted.ensures in
+    omega (arith, ends_counted c.make_room.new.self.register c.apply.new.self (c.args.command ∷ []) kept (Replied c.in-Ok.reply ∷ []) ends, c.make_room.new.self.counts)
 
 pub keep-requires-clause-other_counted : goal.keep-requires-clause-other_counted
 keep-requires-clause-other_counted g c =
@@ -147,12 +150,12 @@ keep-requires-clause-other_counted g c =
     let m = c.make_room.new.self.register in
     let t = c.apply.new.self in
     let kept = c.if_accepted.result.now in
-    let one = Replied c.in_ok-reply.reply ∷ [] in
-    let ends = one_ends m t c.in_ok-reply.reply c.args.command.now c.in_ok-reply.ensures.ok c.args.command kept refl c.if_accepted.ensures in
+    let one = Replied c.in-Ok.reply ∷ [] in
+    let ends = one_ends m t c.in-Ok.reply c.args.command.now c.in-Ok.ensures.ok c.args.command kept refl c.if_accepted.ensures in
     counts_ongoing self.layout self.side self.epoch self.journal self.register.count t.count self.ongoing self.other (length kept) (omega (arith, ends_counted m t (c.args.command ∷ []) kept one ends))
 
 pub returns-in_err-keep-clause-register : goal.returns-in_err-keep-clause-register
-returns-in_err-keep-clause-register g c = after_one c.make_room.new.self.register c.apply.new.self c.in_ok-reply.reply c.args.command.now c.in_ok-reply.ensures.ok c.args.self.now.register c.keep.new.self.register c.make_room.ensures.same.1 c.keep.ensures.same.1
+returns-in_err-keep-clause-register g c = after_one c.make_room.new.self.register c.apply.new.self c.in-Ok.reply c.args.command.now c.in-Ok.ensures.ok c.args.self.now.register c.keep.new.self.register c.make_room.ensures.same.1 c.keep.ensures.same.1
 
 pub returns-in_err-keep-clause-any_moment : goal.returns-in_err-keep-clause-any_moment
 returns-in_err-keep-clause-any_moment g c = λ honest stored.
@@ -160,8 +163,8 @@ returns-in_err-keep-clause-any_moment g c = λ honest stored.
     let m = c.make_room.new.self.register in
     let t = c.apply.new.self in
     let kept = c.if_accepted.result.now in
-    let one = Replied c.in_ok-reply.reply ∷ [] in
-    let ends = one_ends m t c.in_ok-reply.reply c.args.command.now c.in_ok-reply.ensures.ok c.args.command kept refl c.if_accepted.ensures in
+    let one = Replied c.in-Ok.reply ∷ [] in
+    let ends = one_ends m t c.in-Ok.reply c.args.command.now c.in-Ok.ensures.ok c.args.command kept refl c.if_accepted.ensures in
     desk_leaves g.row.A.Denot self.register m t c.keep.new.self.register c.make_room.ensures.same.1 c.keep.ensures.same.1
     (g.D.Disk.view self.disk) (g.D.Disk.view c.make_room.new.self.disk) (g.D.Disk.view c.keep.new.self.disk) (c.make_room.ensures.any_moment honest stored)
     (c.keep.ensures.any_moment m (ends_history m t (c.args.command ∷ []) kept one ends) (ends_state m t (c.args.command ∷ []) kept one ends) (c.make_room.ensures.honest honest) (c.in_ok-make_room.ensures.kept honest stored))
@@ -173,8 +176,8 @@ returns-in_err-keep-clause-some_calls g c = λ honest.
     let m = c.make_room.new.self.register in
     let t = c.apply.new.self in
     let kept = c.if_accepted.result.now in
-    let one = Replied c.in_ok-reply.reply ∷ [] in
-    let ends = one_ends m t c.in_ok-reply.reply c.args.command.now c.in_ok-reply.ensures.ok c.args.command kept refl c.if_accepted.ensures in
+    let one = Replied c.in-Ok.reply ∷ [] in
+    let ends = one_ends m t c.in-Ok.reply c.args.command.now c.in-Ok.ensures.ok c.args.command kept refl c.if_accepted.ensures in
     let fits = fits_in g.row.A.Denot self.journal (c.args.command ∷ []) in
     let now = with_room fits (view_of self) in
     let old = g.D.Disk.view self.disk in
@@ -202,8 +205,8 @@ returns-in_err-keep-clause-some_calls_on_any_disk g c =
     let m = c.make_room.new.self.register in
     let t = c.apply.new.self in
     let kept = c.if_accepted.result.now in
-    let one = Replied c.in_ok-reply.reply ∷ [] in
-    let ends = one_ends m t c.in_ok-reply.reply c.args.command.now c.in_ok-reply.ensures.ok c.args.command kept refl c.if_accepted.ensures in
+    let one = Replied c.in-Ok.reply ∷ [] in
+    let ends = one_ends m t c.in-Ok.reply c.args.command.now c.in-Ok.ensures.ok c.args.command kept refl c.if_accepted.ensures in
     let fits = fits_in g.row.A.Denot self.journal (c.args.command ∷ []) in
     let now = with_room fits (view_of self) in
     let old = g.D.Disk.view self.disk in
@@ -224,7 +227,7 @@ returns-in_err-keep-clause-some_calls_on_any_disk g c =
     )
 
 pub returns-clause-register : goal.returns-clause-register
-returns-clause-register g c = after_one c.make_room.new.self.register c.apply.new.self c.in_ok-reply.reply c.args.command.now c.in_ok-reply.ensures.ok c.args.self.now.register c.keep.new.self.register c.make_room.ensures.same.1 c.keep.ensures.same.1
+returns-clause-register g c = after_one c.make_room.new.self.register c.apply.new.self c.in-Ok.reply c.args.command.now c.in-Ok.ensures.ok c.args.self.now.register c.keep.new.self.register c.make_room.ensures.same.1 c.keep.ensures.same.1
 
 pub returns-clause-any_moment : goal.returns-clause-any_moment
 returns-clause-any_moment g c = λ honest stored.
@@ -232,8 +235,8 @@ returns-clause-any_moment g c = λ honest stored.
     let m = c.make_room.new.self.register in
     let t = c.apply.new.self in
     let kept = c.if_accepted.result.now in
-    let one = Replied c.in_ok-reply.reply ∷ [] in
-    let ends = one_ends m t c.in_ok-reply.reply c.args.command.now c.in_ok-reply.ensures.ok c.args.command kept refl c.if_accepted.ensures in
+    let one = Replied c.in-Ok.reply ∷ [] in
+    let ends = one_ends m t c.in-Ok.reply c.args.command.now c.in-Ok.ensures.ok c.args.command kept refl c.if_accepted.ensures in
     desk_leaves g.row.A.Denot self.register m t c.keep.new.self.register c.make_room.ensures.same.1 c.keep.ensures.same.1
     (g.D.Disk.view self.disk) (g.D.Disk.view c.make_room.new.self.disk) (g.D.Disk.view c.keep.new.self.disk) (c.make_room.ensures.any_moment honest stored)
     (c.keep.ensures.any_moment m (ends_history m t (c.args.command ∷ []) kept one ends) (ends_state m t (c.args.command ∷ []) kept one ends) (c.make_room.ensures.honest honest) (c.in_ok-make_room.ensures.kept honest stored))
@@ -245,8 +248,8 @@ returns-clause-some_calls g c = λ honest.
     let m = c.make_room.new.self.register in
     let t = c.apply.new.self in
     let kept = c.if_accepted.result.now in
-    let one = Replied c.in_ok-reply.reply ∷ [] in
-    let ends = one_ends m t c.in_ok-reply.reply c.args.command.now c.in_ok-reply.ensures.ok c.args.command kept refl c.if_accepted.ensures in
+    let one = Replied c.in-Ok.reply ∷ [] in
+    let ends = one_ends m t c.in-Ok.reply c.args.command.now c.in-Ok.ensures.ok c.args.command kept refl c.if_accepted.ensures in
     let fits = fits_in g.row.A.Denot self.journal (c.args.command ∷ []) in
     let now = with_room fits (view_of self) in
     let old = g.D.Disk.view self.disk in
@@ -274,8 +277,8 @@ returns-clause-some_calls_on_any_disk g c =
     let m = c.make_room.new.self.register in
     let t = c.apply.new.self in
     let kept = c.if_accepted.result.now in
-    let one = Replied c.in_ok-reply.reply ∷ [] in
-    let ends = one_ends m t c.in_ok-reply.reply c.args.command.now c.in_ok-reply.ensures.ok c.args.command kept refl c.if_accepted.ensures in
+    let one = Replied c.in-Ok.reply ∷ [] in
+    let ends = one_ends m t c.in-Ok.reply c.args.command.now c.in-Ok.ensures.ok c.args.command kept refl c.if_accepted.ensures in
     let fits = fits_in g.row.A.Denot self.journal (c.args.command ∷ []) in
     let now = with_room fits (view_of self) in
     let old = g.D.Disk.view self.disk in
@@ -296,18 +299,38 @@ returns-clause-some_calls_on_any_disk g c =
     )
 
 pub returns-clause-replied : goal.returns-clause-replied
-returns-clause-replied g c = rw (c.keep.ensures.same.1, sym c.make_room.ensures.same.1) c.in_ok-reply.ensures.ok
+returns-clause-replied g c = rw (c.keep.ensures.same.1, sym c.make_room.ensures.same.1) c.in-Ok.ensures.ok
 
 pub returns-clause-kept : goal.returns-clause-kept
 returns-clause-kept g c = λ sound honest stored.
     let m = c.make_room.new.self.register in
     let t = c.apply.new.self in
     let kept = c.if_accepted.result.now in
-    let one = Replied c.in_ok-reply.reply ∷ [] in
-    let ends = one_ends m t c.in_ok-reply.reply c.args.command.now c.in_ok-reply.ensures.ok c.args.command kept refl c.if_accepted.ensures in
+    let one = Replied c.in-Ok.reply ∷ [] in
+    let ends = one_ends m t c.in-Ok.reply c.args.command.now c.in-Ok.ensures.ok c.args.command kept refl c.if_accepted.ensures in
     let new = c.keep.new.self in
     batch_kept g.row.A.Denot new.layout new.side new.epoch new.journal new.ongoing t new.register (g.D.Disk.view new.disk) c.keep.ensures.same.1
     (c.in_ok-keep.ensures.kept m (ends_history m t (c.args.command ∷ []) kept one ends) (ends_state m t (c.args.command ∷ []) kept one ends) (c.make_room.ensures.honest honest) (c.in_ok-make_room.ensures.kept honest stored))
+
+pub invariant_of-self-2-clause-stored : goal.invariant_of-self-2-clause-stored
+invariant_of-self-2-clause-stored g c = ∥∥₁_map c.make_room.new.self.stored (λ is whole found.
+    let m = c.make_room.new.self.register in
+    let t = c.apply.new.self in
+    let kept = c.if_accepted.result.now in
+    let one = Replied c.in-Ok.reply ∷ [] in
+    let ends = one_ends m t c.in-Ok.reply c.args.command.now c.in-Ok.ensures.ok c.args.command kept refl c.if_accepted.ensures in
+    let self = c.keep.new.self in
+    let was = is (c.in_ok-make_room.ensures.sound c.if-self.false) (subst (λ (disk : g.row.D.Denot). (g.D.Disk.view disk).honest) c.keep.ensures.same.3 found) in (
+      c.keep.ensures.honest was.0,
+      batch_kept g.row.A.Denot self.layout self.side self.epoch self.journal self.ongoing t self.register (g.D.Disk.view self.disk) c.keep.ensures.same.1
+          (c.in_ok-keep.ensures.kept m (ends_history m t (c.args.command ∷ []) kept one ends) (ends_state m t (c.args.command ∷ []) kept one ends) was.0 was.1),
+    ))
+
+pub invariant_of-self-in_default-clause-stored : goal.invariant_of-self-in_default-clause-stored
+invariant_of-self-in_default-clause-stored g c =
+    let self = c.make_room.new.self in
+    let same : c.apply.new.self ≡ self.register = c.in_default.ensures.err in
+    ∥∥₁_map self.stored (λ is whole found. rw same (is (c.in_ok-make_room.ensures.sound c.if-self.false) found))
 
 pub returns-clause-calls : goal.returns-clause-calls
 returns-clause-calls g c = λ honest.
@@ -316,8 +339,8 @@ returns-clause-calls g c = λ honest.
     let m = c.make_room.new.self.register in
     let t = c.apply.new.self in
     let kept = c.if_accepted.result.now in
-    let one = Replied c.in_ok-reply.reply ∷ [] in
-    let ends = one_ends m t c.in_ok-reply.reply c.args.command.now c.in_ok-reply.ensures.ok c.args.command kept refl c.if_accepted.ensures in
+    let one = Replied c.in-Ok.reply ∷ [] in
+    let ends = one_ends m t c.in-Ok.reply c.args.command.now c.in-Ok.ensures.ok c.args.command kept refl c.if_accepted.ensures in
     let fits = fits_in g.row.A.Denot self.journal (c.args.command ∷ []) in
     let now = with_room fits (view_of self) in
     let old = g.D.Disk.view self.disk in
@@ -333,7 +356,8 @@ returns-clause-calls g c = λ honest.
       these,
       also,
       recorded,
-      room_kept (view_of room) (view_of self) fits c.make_room.ensures.same.0 place these (view_of c.keep.new.self) (kept_from _ (view_of room) (view_of c.keep.new.self) these c.in_ok-keep.ensures.goes refl refl refl refl refl),
+      room_kept (view_of room) (view_of self) fits c.make_room.ensures.same.0 place these (record (view_of c.keep.new.self) { broken = false })
+          (kept_so (view_of c.keep.new.self) false (view_of room) these (kept_from _ (view_of room) (view_of c.keep.new.self) these c.in_ok-keep.ensures.goes refl refl refl refl refl)),
       made_then old mid new (room_calls self.layout self.side self.epoch self.register old.reads fits) _ _ (c.in_ok-make_room.ensures.calls honest) (room_calls_read (view_of room) (view_of self) fits c.make_room.ensures.same.0 place these begins was_open also same) (c.in_ok-keep.ensures.calls (c.make_room.ensures.honest honest)),
     )
 
@@ -344,8 +368,8 @@ returns-clause-calls_on_any_disk g c =
     let m = c.make_room.new.self.register in
     let t = c.apply.new.self in
     let kept = c.if_accepted.result.now in
-    let one = Replied c.in_ok-reply.reply ∷ [] in
-    let ends = one_ends m t c.in_ok-reply.reply c.args.command.now c.in_ok-reply.ensures.ok c.args.command kept refl c.if_accepted.ensures in
+    let one = Replied c.in-Ok.reply ∷ [] in
+    let ends = one_ends m t c.in-Ok.reply c.args.command.now c.in-Ok.ensures.ok c.args.command kept refl c.if_accepted.ensures in
     let fits = fits_in g.row.A.Denot self.journal (c.args.command ∷ []) in
     let now = with_room fits (view_of self) in
     let old = g.D.Disk.view self.disk in
@@ -361,9 +385,7 @@ returns-clause-calls_on_any_disk g c =
       all.0,
       also.0,
       recorded,
-      room_kept (view_of room) (view_of self) fits c.make_room.ensures.same.0 place these (view_of c.keep.new.self) (kept_from _ (view_of room) (view_of c.keep.new.self) these c.in_ok-keep.ensures.goes refl refl refl refl refl),
+      room_kept (view_of room) (view_of self) fits c.make_room.ensures.same.0 place these (record (view_of c.keep.new.self) { broken = false })
+          (kept_so (view_of c.keep.new.self) false (view_of room) these (kept_from _ (view_of room) (view_of c.keep.new.self) these c.in_ok-keep.ensures.goes refl refl refl refl refl)),
       made_then old mid new (room_calls_by self.layout self.side self.epoch self.register all.0 fits) _ _ all.1 (room_calls_are (view_of room) (view_of self) fits c.make_room.ensures.same.0 place these begins also.0) also.1,
     )
-
-pub returns-clause-sound : goal.returns-clause-sound
-returns-clause-sound g c = (c.if-self.false, c.in_ok-keep.ensures.sound ∙ c.in_ok-make_room.ensures.sound c.if-self.false)

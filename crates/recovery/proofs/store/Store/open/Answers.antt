@@ -1,4 +1,4 @@
-use Rattle.std.proofs.Common.{◌≡◌, ◌<◌, ◌≤◌, length, Ok, ap, sym, ◌∙◌, arith, inl, inr, refl}
+use Rattle.std.proofs.Common.{◌≡◌, ◌<◌, ◌≤◌, length, Ok, ap, subst, sym, ◌∙◌, arith, inl, inr, refl}
 use Rattle.sector_disk.specs.Disk.{View}
 use Rattle.sector_disk.specs.Reading.{before_reads}
 use Rattle.sector_disk.proofs.Reading.{one_sync}
@@ -27,6 +27,24 @@ returns-in-Ok-read_all-clause-kept g c honest =
     let form : c.in-Ok-read_all.opened.journal.form ≡ slot_form o.layout o.side now.reads = rw only_read.reads (c.in-Ok-read_all.ensures.form syncs.honest) in
     let stored = stored_so g.row.A.Denot now o c.in-Ok-read_all.opened.journal (one_image given synced now syncs only_read) (sound.reads_left.whole 0 some).bytes last c.in-Ok-read_all.ensures.whole.next refl form c.in-Ok-read_all.ensures.whole.counts in
     record { stored = stored; under_way = tt }
+
+pub invariant_of-result-clause-stored : goal.invariant_of-result-clause-stored
+invariant_of-result-clause-stored g c = ∣ (λ whole found.
+    let honest : (g.D.Disk.view c.args.disk).honest = subst (λ (disk : g.row.D.Denot). (g.D.Disk.view disk).honest) c.of-found.ensures found in
+    let given : View = g.D.Disk.view c.args.disk in
+    let synced : View = g.D.Disk.view c.sync.new.self in
+    let now : View = g.D.Disk.view c.read_all.new.disk in
+    let syncs = c.in-Ok.ensures.effect honest in
+    let only_read = c.in-Ok-read_all.ensures.only_read syncs.honest in
+    let o : Opening = opened_view c.in-Ok-read_all.opened in
+    let there : opens g.row.A.Denot synced.reads ≡ Ok o = c.in-Ok-read_all.ensures.exact syncs.honest in
+    let last : opens g.row.A.Denot now.reads ≡ Ok o = ap (opens g.row.A.Denot) only_read.reads ∙ there in
+    let sound = g.met.D.Disk.sound c.read_all.new.disk only_read.honest in
+    let room : disk_size o.layout ≤ synced.sectors = c.in-Ok-read_all.ensures.room in
+    let some : 0 < length now.reads = omega (arith, room, sound.count, c.read_all.ensures.sectors) in
+    let form : c.in-Ok-read_all.opened.journal.form ≡ slot_form o.layout o.side now.reads = rw only_read.reads (c.in-Ok-read_all.ensures.form syncs.honest) in
+    let stored = stored_so g.row.A.Denot now o c.in-Ok-read_all.opened.journal (one_image given synced now syncs only_read) (sound.reads_left.whole 0 some).bytes last c.in-Ok-read_all.ensures.whole.next refl form c.in-Ok-read_all.ensures.whole.counts in
+    (only_read.honest, record { stored = stored; under_way = tt })) ∣₁
 
 pub returns-in-Ok-read_all-clause-only : goal.returns-in-Ok-read_all-clause-only
 returns-in-Ok-read_all-clause-only g c honest image is =
@@ -72,6 +90,7 @@ returns-in-Ok-read_all-clause-call g c honest =
       honest = only_read.honest;
       opened = ap (opens g.row.A.Denot) (sym syncs.reads) ∙ c.in-Ok-read_all.ensures.exact syncs.honest;
       kept = returns-in-Ok-read_all-clause-kept g c honest;
+      found = c.of-found.ensures;
       left = returns-in-Ok-read_all-clause-left g c honest;
     })
 

@@ -1,0 +1,43 @@
+-- The answer to the query `service`. Of the figures in it only the form is said.
+use Rattle.std.specs.Prelude.{◌≡◌, ◌⊎◌, ℕ, ◌+◌, Bool, true, false, List, [], ◌∷◌, ◌++◌, length, codes, decimal}
+use Rattle.identity.specs.Numbers.{Byte}
+use Rattle.console.specs.declared.figures.StationFigures.{StationFigures}
+use Rattle.console.specs.declared.figures.StoreFigures.{StoreFigures}
+
+-- a line with one figure, after its name and a space
+abbrev pub figure_line : List Byte → ℕ → List Byte
+figure_line name figure = name ++ decimal figure ++ codes "\n"
+
+-- how many lines follow for so many stations, and the lines of the service as a whole
+abbrev pub service_words : ℕ → ℕ → StoreFigures → List Byte
+service_words stations rounds store =
+    figure_line (codes "service ") (6 + stations) ++ figure_line (codes "rounds ") rounds ++ figure_line (codes "commands ") store.commands
+    ++ figure_line (codes "syncs ") store.syncs ++ figure_line (codes "checkpoints ") store.checkpoints
+    ++ figure_line (codes "epoch ") store.epoch ++ figure_line (codes "free ") store.free
+
+-- whether a station waits, at the end of its line
+abbrev pub waits_text : Bool → List Byte
+waits_text true = codes " waits yes\n"
+waits_text false = codes " waits no\n"
+
+-- a station's line as far as the commands that were accepted
+abbrev pub station_begin : ℕ → StationFigures → List Byte
+station_begin number figures = codes "station " ++ decimal number ++ codes " lines " ++ decimal figures.lines ++ codes " accepted " ++ decimal figures.accepted
+
+-- the rest of it
+abbrev pub station_end : StationFigures → List Byte
+station_end figures = codes " refused " ++ decimal figures.refused ++ codes " kept " ++ decimal figures.kept ++ waits_text figures.waits
+
+-- the line of the station of this number
+abbrev pub station_line : ℕ → StationFigures → List Byte
+station_line number figures = station_begin number figures ++ station_end figures
+
+-- the lines of stations, of which the first has this number
+abbrev pub station_lines : ℕ → List StationFigures → List Byte
+station_lines number [] = []
+station_lines number (figures ∷ more) = station_line number figures ++ station_lines (number + 1) more
+
+-- the lines have the form of an answer to `service`: that no stations are served, or some figures, with a line for each station in order
+abbrev pub IsService : List Byte → Type 0
+IsService lines = (lines ≡ codes "service 0\n")
+    ⊎ ((rounds : ℕ) × (store : StoreFigures) × (stations : List StationFigures) × (lines ≡ service_words (length stations) rounds store ++ station_lines 1 stations))

@@ -1,0 +1,45 @@
+-- Rounds in the life of a disk.
+use Rattle.std.specs.Prelude.{◌≡◌, true, List, [], ◌∷◌, ◌++◌}
+use Rattle.std.specs.declared.alloc.Global.{Global}
+use Rattle.identity.specs.Numbers.{Byte}
+use Rattle.sector_disk.specs.Disk.{View}
+use Rattle.centre_core.specs.Asked.{Asked}
+use Rattle.centre_core.specs.State.{State}
+use Rattle.recovery.specs.Lives.{Answered, Closed, ComesBack, Event, IsCall, IsLife, Open, Unanswered, stopped}
+use Rattle.flusher.specs.Rounds.{IsRound}
+use Rattle.flusher.specs.Stored.{AreUnderWay}
+use Rattle.flusher.specs.View.{FlusherView}
+
+module _ {D : Type 0} (view : D → View) (base : State) where
+  -- A round is a call of the store. What it made durable was answered. If the disk failed in it, what was under way was not.
+  pub data IsRoundCall (f g : FlusherView D) : Event Global → Type 0 where
+    makes_durable : (more : List (Asked Global)) → g.durable ≡ f.durable ++ more
+        → IsCall Global view (Open f.store) (Answered more) (Open g.store) → IsRoundCall f g (Answered more)
+    fails_under_way : (more : List (Asked Global)) → g.store.broken ≡ true → g.durable ≡ f.durable → AreUnderWay base g more
+        → IsCall Global view (Open f.store) (Unanswered more) (Open g.store) → IsRoundCall f g (Unanswered more)
+
+  -- whatever happened in it
+  abbrev pub IsSomeCall : FlusherView D → FlusherView D → Type 0
+  IsSomeCall f g = (event : Event Global) × IsRoundCall f g event
+
+  -- rounds, one after another, and what happened in each, the last one first
+  pub data AreCalls (f : FlusherView D) : List (Event Global) → FlusherView D → Type 0 where
+    no_call : AreCalls f [] f
+    one_call : (events : List (Event Global)) (event : Event Global) (g h : FlusherView D)
+        → AreCalls f events g → IsRound view base g h → IsRoundCall g h event → AreCalls f (event ∷ events) h
+
+-- What happened, the last event first, and what of it had happened when a stop came: in one of these calls, or before any.
+pub data AreCutShort : List (Event Global) → List (Event Global) → Type 0 where
+  before_any : AreCutShort [] (Unanswered [] ∷ [])
+  in_last : (event : Event Global) (events : List (Event Global)) → AreCutShort (event ∷ events) (stopped event ∷ events)
+  in_earlier : (event : Event Global) (events cut : List (Event Global)) → AreCutShort events cut → AreCutShort (event ∷ events) cut
+
+-- A life of the disk came to the first flusher's store by these events, and goes on by rounds to the last one's. A stop at any moment in
+-- between goes on with it too: the disk comes back with what the rounds before the stop did, and all or none of the round in which it came.
+pub record HasLived {D : Type 0} (view : D → View) (base from : State) (before : List (Event Global)) (first last : FlusherView D) : Type 0 where
+  pub events : List (Event Global)
+  pub calls : AreCalls view base first events last
+  pub life : IsLife Global view from (events ++ before) (Open last.store)
+  pub stops : (image : List (List Byte)) (disk : D) → (view last.store.disk).since (view first.store.disk).moment image
+      → ComesBack Global view image disk
+      → (cut : List (Event Global)) × AreCutShort events cut × IsLife Global view from (cut ++ before) (Closed disk)

@@ -1,0 +1,35 @@
+use Rattle.std.proofs.Common.{Err, ap, arith}
+use Rattle.served_disk.proofs.OfRest.{reported_before, text_before, unchecked, why_before}
+use Rattle.served_disk.proofs.rest.rest_on.Goals as goal
+
+pub write_rest-requires-clause-on_disk : goal.write_rest-requires-clause-on_disk
+write_rest-requires-clause-on_disk g c at damaged =
+    let low = c.in-Ok.ensures.on_disk at damaged in
+    omega (arith, low, c.check.ensures.sectors)
+
+pub returns-in-Ok-write_rest-clause-written : goal.returns-in-Ok-write_rest-clause-written
+returns-in-Ok-write_rest-clause-written g c =
+    let is = c.in-Ok-write_rest.ensures.written in (
+      is.0,
+      record {
+        checked = c.in-Ok.checked;
+        found = λ honest. c.in-Ok.ensures.exact honest;
+        reported = reported_before _ _ _ _ _ c.check.ensures.honest c.check.ensures.reads _ _ _ _ is.1;
+      },
+      text_before _ _ _ _ _ c.check.ensures.honest c.check.ensures.reads _ _ _ _ _ is.2,
+    )
+
+pub returns-in-Err-clause-refused : goal.returns-in-Err-clause-refused
+returns-in-Err-clause-refused g c =
+    let why = c.in-Err.ensures in
+    record {
+      kind = why.kinds;
+      there = λ honest. unchecked _ _ _ why.kinds (why.exact honest);
+      device = λ same. why.fault (ap (λ f. Err f) same);
+      memory = λ same honest. tt;
+    }
+
+pub returns-in-Err-write_rest-clause-refused : goal.returns-in-Err-write_rest-clause-refused
+returns-in-Err-write_rest-clause-refused g c =
+    why_before _ _ (g.D.Disk.view c.args.disk) (g.D.Disk.view c.check.new.disk) (g.D.Disk.view c.write_rest.new.disk) c.check.ensures.later c.check.ensures.honest c.check.ensures.reads
+    c.in-Err-write_rest.fault c.in-Err-write_rest.ensures.refused

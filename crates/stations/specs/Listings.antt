@@ -1,0 +1,31 @@
+-- The bound on listings, over all stations of a run together.
+use Rattle.std.specs.Prelude.{◌⊎◌, ◌≤◌, ◌<◌, ◌*◌, ◌+◌, ◌-◌, ℕ, Bool, true, false, min}
+use Rattle.listings.specs.declared.listing.Listing.{Listing}
+use Rattle.listings.specs.declared.listing.Listing.TheVariants as listing
+
+-- A listing that walks through a table takes a turn: all do but a station's last accepted command.
+abbrev pub takes_turn : Listing → Bool
+takes_turn (listing.Last station) = false
+takes_turn other = true
+
+-- a listing counts as one of at most so many nanoseconds
+abbrev pub most_counted : ℕ
+most_counted = 100000000
+
+-- The moment from which the next listing may begin, after one that began and ended at these moments, in nanoseconds: between the two are nine
+-- times as many as the listing took.
+abbrev pub opening : ℕ → ℕ → ℕ
+opening began ended = ended + 9 * min (ended - began) most_counted
+
+-- more than two texts are kept only while they take at most so many bytes, and one text more
+abbrev pub spare_bytes : ℕ
+spare_bytes = 4194304
+
+-- one more text may be kept beside so many that are not written yet, which take so many bytes together
+abbrev pub MayKeep : ℕ → ℕ → Type 0
+MayKeep texts bytes = (texts < 2) ⊎ (bytes ≤ spare_bytes)
+
+-- So many texts, which take so many bytes, are bounded, if none was ever longer than `longest`: more than two take at most the spare bytes
+-- and those of one text.
+abbrev pub AreBounded : ℕ → ℕ → ℕ → Type 0
+AreBounded texts bytes longest = 2 < texts → bytes ≤ spare_bytes + longest
