@@ -1,4 +1,4 @@
-/* The same as crates/benchmarks, in plain C: records of a location update in sectors of 512 bytes in memory, written
+/* The same as crates/bench_registers, in plain C: records of a location update in sectors of 512 bytes in memory, written
    and read back. Prints, for records of 1 and of 64 commands, how many there were and the nanoseconds of each way. */
 #include <stdint.h>
 #include <stdio.h>

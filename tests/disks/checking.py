@@ -286,27 +286,36 @@ def other_words(place):
     place.gives(['check', '--', '-d'], *wanted(place.image('-d')))
 
 
-def memory_that_ends(place, image):
-    """Each allocation in turn is refused: then no line is printed."""
+def memory_that_ends(place, image, rows):
+    """Each allocation in turn is refused. Then no line is printed: the fault is that of memory, and once damage was found always the first of
+    these damaged rows."""
+    lacks, found = ((5, b'', b'fault: ' + word + b'\n') for word in (b'memory', b'damaged sector %d' % (rows or [0])[0]))
     place.put(image)
+    refused = []
     with refusing.library() as made, untouched(place.path()):
         for number in itertools.count(1):
             ended = subprocess.run([*place.command, *CHECK], cwd=place.folder, stdin=subprocess.DEVNULL, capture_output=True, timeout=SECONDS,
                                    env=refusing.environment(made, number))
             told = ended.returncode, ended.stdout, ended.stderr
-            if told != (5, b'', b'fault: memory\n'):
+            if told not in (lacks, found):
                 break
+            refused.append(told)
+    before = refused.count(lacks)
     compare('what is printed', told, wanted(image))
-    compare('allocations were refused', number > 1, True)
+    compare('the order of faults', refused, [lacks] * before + [found] * (len(refused) - before))
+    compare('allocations were refused before damage, and after', (before > 0, len(refused) > before), (True, bool(rows)))
 
 
 def the_refused(command, images, count):
-    """On a disk that is sound, and on one whose other side has a damaged row."""
+    """On a disk that is sound, and on those with a damaged row on either side, or on both."""
     for form, image in images.items():
-        row = layout_on(image).slot(1) + 1
-        for name, disk in ('sound', image), ('damaged', with_sector(image, row, bytes(SECTOR))):
+        a, b = (layout_on(image).slot(side) + 1 for side in (0, 1))
+        for name, rows in ('sound', []), ('side A damaged', [a]), ('side B damaged', [b]), ('both damaged', [a, b]):
+            disk = image
+            for row in rows:
+                disk = with_sector(disk, row, bytes(SECTOR))
             with place(command, MEMORY) as folder:
-                count.case(f'{FORMS[form]}, {name}, allocations refused', memory_that_ends, folder, disk)
+                count.case(f'{FORMS[form]}, {name}, allocations refused', memory_that_ends, folder, disk, rows)
                 count.case(f'{FORMS[form]}, {name}, allocations of a rest refused', rests.memory_that_ends, folder, disk)
 
 

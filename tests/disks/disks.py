@@ -1,5 +1,5 @@
 #!/usr/bin/env python3
-"""Gives a program (crates/stops) batches of lines for a register on a disk, and follows each call to the disk. The program makes
+"""Gives a program (crates/probe_disks) batches of lines for a register on a disk, and follows each call to the disk. The program makes
 one disk ready. The test itself writes another one, of layout 1, which moves to layout 2 at its first checkpoint.
 - The calls of each batch must be those of the independent reading (tests/reading/), also while a checkpoint goes on beside.
 - The disk is stopped after each call and within each write. By the reading, the image must open to the register before the batch or

@@ -1,5 +1,5 @@
 #!/usr/bin/env python3
-"""Gives a program (crates/read_rows) the sectors of images, whole and with faults, and compares what its loader makes of each with
+"""Gives a program (crates/probe_image_rows) the sectors of images, whole and with faults, and compares what its loader makes of each with
 the independent reading (tests/reading/). Prints a line for each kind of case, the first difference of a kind that fails, and
 last 'N passed, M failed'.
 Usage: tests/run image_rows COMMAND..."""

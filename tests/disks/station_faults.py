@@ -21,6 +21,8 @@ from testing import Count, options
 
 STATIONS, READY = 4, 'ready.img'
 DEVICE, BROKEN = 'device', 'broken'
+# A refusal that the rules give to no command of a run, whatever its order: it would need 2^62 accepted commands
+NEVER = b' no numbers-used-up'
 # On which disks calls fail, and how; where lines come together a read gives so many
 FAILING = ((PLAIN, 'once', {}), (NUMBERED, 'and each later one', {'ALWAYS': 1}), (NUMBERED, 'once, lines together', {'together': 8}),
            (PLAIN, 'and each later one, lines together', {'ALWAYS': 1, 'together': 20}))
@@ -163,9 +165,9 @@ def changed(out, word, other, last=False):
 def changes(done, record, image, ready):
     """What a run did, changed so that it is wrong."""
     out = lambda *how: (done._replace(out=changed(done.out, *how)), record, image)
-    yield 'device as a refusal', out(b' no device', b' no no-such-message')
+    yield 'device as a refusal', out(b' no device', NEVER)
     yield 'device after broken', out(b' no broken', b' no device', True)
-    yield 'a refusal after broken', out(b' no broken', b' no no-such-message', True)
+    yield 'a refusal after broken', out(b' no broken', NEVER, True)
     yield 'what was acknowledged is not on the disk', (done, record, ready)
     yield 'a write after the fault', (done, [*record, Done('w', 0, b'')], image)
     yield 'another status', (done._replace(status=0), record, image)

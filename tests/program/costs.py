@@ -1,7 +1,7 @@
 #!/usr/bin/env python3
 """Counts what a line costs on a small register and on a full one: its allocations in a run of the program on a disk (count.c, preloaded),
 and its instructions, where valgrind is installed. Threads of a run that wait would count too, so these are counted of LINES, which answers
-lines of standard input by one thread over a register in memory (crates/benchmarks). No line's cost may grow with the whole of a table, so a
+lines of standard input by one thread over a register in memory (crates/bench_registers). No line's cost may grow with the whole of a table, so a
 full table may cost a line a few times as much and not hundreds of times. No line may take more than four times the bytes of the longest
 line, or hold more than its answer once it is answered. PDUs of up to 64 bits take no allocation, nor do marks, a station's number and
 orders that are forbidden. A listing of a full register may make a few

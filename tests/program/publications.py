@@ -1,9 +1,9 @@
 #!/usr/bin/env python3
-"""Refuses each allocation of crates/readers in turn (refuse.c, preloaded), one and then two neighbours: it makes a
+"""Refuses each allocation of crates/bench_readers in turn (refuse.c, preloaded), one and then two neighbours: it makes a
 publisher with viewers, appends commands and publishes them, each call again while it is refused. Where the publisher is
 made, all has to be published in the end, and no refused publication may change what a viewer reads or what is pending.
 Every run has to free all its blocks. The first runs in which nothing is refused end the test. Prints 'N passed, M failed' last.
-Usage: tests/run publications PROGRAM (crates/readers, a proved build)"""
+Usage: tests/run publications PROGRAM (crates/bench_readers, a proved build)"""
 import collections
 import pathlib
 import re

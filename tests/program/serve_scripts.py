@@ -298,12 +298,16 @@ def a_device_that_fails(place, _):
         opening = made.does(['show', 'switch.disk', 'count'], 0, b'count 0\n', disk='switch.disk')
         service.env.update(made.environment(fails=len(opening) + 1, disk='switch.disk', files=[], ALWAYS=1))
         with service.started() as program:
-            [station] = connected(service.pipes, program, (3,))
-            station.send(b'1 0 expire')
+            stations = connected(service.pipes, program, range(1, STATIONS + 1))
+            # Who has an answer was reported before: so no report is lost in the fault.
+            for station in stations:
+                compare('count', station.ask(b'count'), ['count 0'])
+            stations[2].send(b'1 0 expire')
             waits(lambda: program.poll() is not None)
             said = program.stderr.read().decode().splitlines()
             compare('its end', (program.returncode, said[-1], set(said[:-1])), (5, 'fault: device', service.says(STATIONS)))
-            station.leave()
+            for station in stations:
+                station.leave()
     compare('it is started again', restarts_after(service, 5), False)
 
 

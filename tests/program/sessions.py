@@ -1,10 +1,11 @@
 #!/usr/bin/env python3
-"""Refuses each allocation of crates/sessions in turn (refuse.c, preloaded). It opens a centre, and one session submits four
+"""Refuses each allocation of crates/bench_sessions in turn (refuse.c, preloaded). It opens a centre, and one session submits four
 commands, each again while memory runs out; it says what the session saw. No answer or read may be wrong, and in the end the
 register has each command once. Where a command was kept and not published, each later allocation is refused too: the next
 round answers out of memory and commits nothing. Every run has to free all its blocks but one: the C library keeps the table
-of a thread's storage (`allocate_dtv`) once the thread has ended. Prints 'N passed, M failed' last.
-Usage: tests/run sessions PROGRAM (crates/sessions, a proved build)"""
+of a thread's storage (`allocate_dtv`) once the thread has ended. The program's first allocations are for the words of its command
+line. Prints 'N passed, M failed' last.
+Usage: tests/run sessions PROGRAM (crates/bench_sessions, a proved build)"""
 import collections
 import pathlib
 import re
@@ -22,8 +23,10 @@ COMMANDS = 4
 OF_A_THREAD = 1
 # How many allocations there are at most between a refused publication and the next one.
 NEAR = 16
+# A run without memory for the words of its command line, which ends before any other kind is seen.
+WORDS = 'no memory for its words'
 # What has to be seen: a run of each kind.
-KINDS = ('nothing refused', 'not served', 'unopened', 'unsent', 'refused', 'kept', 'caught up', 'behind')
+KINDS = (WORDS, 'nothing refused', 'not served', 'unopened', 'unsent', 'refused', 'kept', 'caught up', 'behind')
 
 
 class Runs:
@@ -61,7 +64,9 @@ class Runs:
         """The kinds of a run, each of which it counts."""
         status, said, held, _ = self.run(refused, **further)
         fault = self.fault(status, said, held)
-        if fault:
+        if (status, said, held) == (5, None, 0) and not self.seen.keys() - {WORDS}:
+            kinds = [WORDS]
+        elif fault:
             print(f'allocation {refused} refused, {further}: {fault}; {said}')
             kinds = ['WRONG']
         elif said['word'] == 'not served':

@@ -18,12 +18,21 @@ module _ {T : Type 0} where
   abbrev All : (ℕ → (View T) → Type 0) → List (View T) → Type 0
   All F views = (port : ℕ) (v : (View T)) → get_elem? views port ≡ some v → F port v
 
-  all_set : (F : ℕ → (View T) → Type 0) (views : List (View T)) (port : ℕ) (w : (View T)) → F port w → ((j : ℕ) (u : (View T)) → j ≢ port → get_elem? views j ≡ some u → F j u) → All F (set views port w)
+  all_set : (F : ℕ → (View T) → Type 0) (views : List (View T)) (port : ℕ) (w : (View T)) → F port w →
+      ((j : ℕ) (u : (View T)) → j ≢ port → get_elem? views j ≡ some u → F j u) → All F (set views port w)
   all_set F views port w mine others j u e = ⊎_elim (λ (x : (j ≡ port) × (w ≡ u)). subst (λ (y : ℕ × (View T)). F y.0 y.1) (λ i. (sym x.0 i, x.1 i)) mine)
       (λ (x : (j ≢ port) × (get_elem? views j ≡ some u)). others j u x.0 x.1) (at_set views port j w u e)
 
   pub begins : IsInOrder {T = T} [] (view_of true true [] [] ∷ [])
-  begins = (0, 0, [], [], refl, all_set (Fits 0 0 [] []) (view_of true true [] [] ∷ []) 0 (view_of true true [] []) ((λ _. (refl, refl)), λ _. (refl, refl)) (λ j u other e. absurd (other (at_end [] _ u j (λ x. some-ne-none u (sym x)) e))))
+  begins = (
+    0,
+    0,
+    [],
+    [],
+    refl,
+    all_set (Fits 0 0 [] []) (view_of true true [] [] ∷ []) 0 (view_of true true [] [])
+        ((λ _. (refl, refl)), λ _. (refl, refl)) (λ j u other e. absurd (other (at_end [] _ u j (λ x. some-ne-none u (sym x)) e))),
+  )
 
   pub sends : (n port : ℕ) (v : (View T)) (x : T) → v.sends ≡ true → Pushes IsInOrder n port v x (λ w. w ≡ view_of v.sends v.receives (v.sent ++ x ∷ []) v.received)
   sends n port v x may items views _ h at = let w : (View T) = view_of v.sends v.receives (v.sent ++ x ∷ []) v.received in let mine = h.5 port v at in let sent = h.2 ++ x ∷ [] in (
@@ -56,7 +65,8 @@ module _ {T : Type 0} where
   )
 
   pub forks : (port : ℕ) (v : (View T)) → v.sends ≡ true → v.receives ≡ true → Forks IsInOrder port v (view_of true false v.sent []) (view_of false true [] v.received)
-  forks port v a b items views h at = let l : (View T) = view_of true false v.sent [] in let r : (View T) = view_of false true [] v.received in let mine = h.5 port v at in let vs : List (View T) = set views port l in
+  forks port v a b items views h at = let l : (View T) = view_of true false v.sent [] in let r : (View T) = view_of false true [] v.received in
+      let mine = h.5 port v at in let vs : List (View T) = set views port l in
       let Old : ℕ → (View T) → Type 0 = λ j u. (u.sends ≡ true → (j ≡ h.0) × (u.sent ≡ h.2)) × (u.receives ≢ true) in
       let old : All Old vs = all_set Old views port l ((λ _. mine.0 a), λ p. true≢false (sym p)) (λ j u other e. ((h.5 j u e).0, λ p. other (((h.5 j u e).1 p).0 ∙ sym (mine.1 b).0))) in (
         h.0,
@@ -65,15 +75,28 @@ module _ {T : Type 0} where
         h.3,
         h.4,
         λ j u e. ⊎_elim (λ x. ((old j u x).0, λ p. absurd ((old j u x).1 p)))
-            (λ (is : r ≡ u). ((λ p. absurd (true≢false (sym (ap (λ (y : (View T)). y.sends) is ∙ p)))), λ p. (at_end vs r u j (λ x. (old j u x).1 p) e, ap (λ (y : (View T)). y.received) (sym is) ∙ (mine.1 b).1))) (at_snoc vs r u j e),
+            (λ (is : r ≡ u). (
+              (λ p. absurd (true≢false (sym (ap (λ (y : (View T)). y.sends) is ∙ p)))),
+              λ p.
+                  (at_end vs r u j (λ x. (old j u x).1 p) e, ap (λ (y : (View T)). y.received) (sym is) ∙ (mine.1 b).1),
+            )) (at_snoc vs r u j e),
       )
 
-  pub merges : (port : ℕ) (v : (View T)) (other : ℕ) (u : (View T)) → v.sends ≡ true → u.receives ≡ true → Merges IsInOrder port v other u (view_of true true v.sent u.received) (view_of false false [] [])
+  pub merges : (port : ℕ) (v : (View T)) (other : ℕ) (u : (View T)) → v.sends ≡ true → u.receives ≡ true →
+      Merges IsInOrder port v other u (view_of true true v.sent u.received) (view_of false false [] [])
   merges port v other u a b items views h at two at' = let both : (View T) = view_of true true v.sent u.received in let mine = h.5 port v at in let vs : List (View T) = set views port both in
       let was : get_elem? views other ≡ some u = ⊎_elim (λ x. absurd (two x.0)) (λ x. x.1) (at_set views port other both u at') in let theirs = (h.5 other u was).1 b in
       let Now : ℕ → (View T) → Type 0 = λ j y. j ≢ other → Fits h.0 port h.2 h.3 j y in
-      let now : All Now vs = all_set Now views port both (λ _. ((λ _. mine.0 a), λ _. (refl, theirs.1))) (λ j y _ e apart. ((h.5 j y e).0, λ p. absurd (apart (((h.5 j y e).1 p).0 ∙ sym theirs.0)))) in
-      (h.0, port, h.2, h.3, h.4, all_set (Fits h.0 port h.2 h.3) vs other (view_of false false [] []) ((λ p. absurd (true≢false (sym p))), λ p. absurd (true≢false (sym p))) (λ j y apart e. now j y e apart))
+      let now : All Now vs = all_set Now views port both (λ _. ((λ _. mine.0 a), λ _. (refl, theirs.1)))
+      (λ j y _ e apart. ((h.5 j y e).0, λ p. absurd (apart (((h.5 j y e).1 p).0 ∙ sym theirs.0)))) in (
+        h.0,
+        port,
+        h.2,
+        h.3,
+        h.4,
+        all_set (Fits h.0 port h.2 h.3) vs other (view_of false false [] []) ((λ p. absurd (true≢false (sym p))), λ p. absurd (true≢false (sym p)))
+            (λ j y apart e. now j y e apart),
+      )
 
   pub totals : (port : ℕ) (v : (View T)) → v.sends ≡ true → v.receives ≡ true → Learns IsInOrder port v (λ items. v.sent ≡ v.received ++ items)
   totals port v a b items views h at = let mine = h.5 port v at in (mine.0 a).1 ∙ h.4 ∙ ap (λ l. l ++ items) (sym (mine.1 b).1)

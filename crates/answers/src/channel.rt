@@ -1,5 +1,5 @@
 //! The two ends of a channel.
-ghost use Rattle.std.specs.Prelude.{◌≡◌, ◌<◌, true, false, [], ◌∷◌, ◌++◌, All, length, IfOk, MatchOption};
+ghost use Rattle.std.specs.Prelude.{◌≡◌, ◌<◌, true, false, [], ◌∷◌, ◌++◌, IfOk, MatchOption};
 ghost use mathlib.Core.List.{IsPrefix};
 ghost use Rattle.crossbeam_channel.specs.Claims.{view, IsSeatAt};
 ghost use Rattle.crossbeam_channel.specs.Ends.{sends_on, receives_on};
@@ -59,27 +59,6 @@ pub fn open_channel<T: Drop>(
     ))
 }
 
-/// As many channels as `count`, each with room for so many messages.
-pub fn open_channels<T: Drop>(
-    alloc: Global,
-    count: usize,
-    room: usize,
-) -> Result<Vec<(AnswerSender<T>, AnswerReceiver<T>)>, AllocError>
-    requires { 0 < room }
-    ensures count { IfOk result (λ v. length v.items ≡ count) }
-    ensures ends { IfOk result (λ v. All (λ r.
-        AreEnds (sends_on r.0.channel) (receives_on r.1.channel) (sent_of r.0.pass) (received_of r.1.pass) r.0.gone) v.items) }
-{
-    let mut channels = Vec::with_capacity(alloc, count)?;
-    for _ in 0..count {
-        let ends = open_channel(alloc, room)?;
-        let Ok(()) = channels.push(ends) else {
-            return Err(AllocError);
-        };
-    }
-    Ok(channels)
-}
-
 impl<T: Drop> AnswerSender<T> {
     /// Sends an answer, and waits while the channel is full. If the session's end is gone, this answer and all later ones
     /// are dropped.
@@ -94,13 +73,6 @@ impl<T: Drop> AnswerSender<T> {
             Ok(()) => {}
             Err(_) => self.gone = true,
         }
-    }
-
-    /// Whether an answer was dropped because the session's end is gone.
-    pub fn is_gone(&self) -> bool
-        ensures { result ≡ self.now.gone }
-    {
-        self.gone
     }
 
     /// Ends the channel. What the session received is a prefix of what was sent to it.

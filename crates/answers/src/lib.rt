@@ -8,4 +8,4 @@
 mod channel;
 pub mod rule;
 
-pub use channel::{AnswerReceiver, AnswerSender, open_channel, open_channels};
+pub use channel::{AnswerReceiver, AnswerSender, open_channel};

@@ -1,9 +1,10 @@
 -- What one accepted command makes of the mail's list.
 use Rattle.std.proofs.Common.{◌≡◌, ℕ, zero, suc, ◌+◌, ◌<◌, ◌≤◌, Bool, true, false, cond, List, [], ◌∷◌, ◌++◌, length, get_or, refl, ap, sym, ◌∙◌, subst, inl, inr, arith}
-use Rattle.std.specs.Prelude.{not, ◌&&◌, ◌||◌, ◌⊎◌}
+use Rattle.std.specs.Prelude.{not, ◌&&◌, ◌⊎◌}
 use Rattle.std.specs.List.{All, filter, Contains}
 use Rattle.std.proofs.lemmas.List.Elements.{All-nil, All-cons, All-filter, All-contains, All-contains_itself, filter_passes, Contains-append_left, Contains-append_right, Contains-append_cases}
 use mathlib.Core.Bool.{false≢true}
+use Rattle.base.proofs.Bools.{and_false}
 use Rattle.mailbox.specs.declared.key.Kind.{Kind}
 use Rattle.mailbox.specs.declared.key.Kind.TheVariants.{Message, Report}
 use Rattle.mailbox.specs.Values.{Item}
@@ -104,15 +105,7 @@ pub changed_by_message : (xs : List Item) (count : ℕ) (w : Item) → w.number 
 changed_by_message xs count w new is =
     changed_by_messages xs (w ∷ []) count (just_one count w new) (All-cons (λ o. is_message o ≡ true) w [] is (All-nil (λ o. is_message o ≡ true)))
 
-and_false : (a : Bool) → (a && false) ≡ false
-and_false true = refl
-and_false false = refl
-
 -- no message has a report's key
 pub no_report : (a : Bool) (k : Kind) → is_message_kind k ≡ true → (a && same_kind Report k) ≡ false
 no_report a Message e = and_false a
 no_report a Report e = absurd (false≢true e)
-
-pub or_none : (b c : Bool) → c ≡ false → (b || c) ≡ b
-or_none true c e = refl
-or_none false c e = e

@@ -60,7 +60,8 @@ radio_located_change s itsi station area update none = record {
     within = located_within s.registered itsi station area none h.within;
     attachments = (
       after_update_fits s.groups itsi update h.attachments.0,
-      after_update_known (located s.registered itsi station area) s.groups itsi update (known_after s.registered (located s.registered itsi station area) s.groups (located_still s.registered itsi station area) h.attachments.1),
+      after_update_known (located s.registered itsi station area) s.groups itsi update
+          (known_after s.registered (located s.registered itsi station area) s.groups (located_still s.registered itsi station area) h.attachments.1),
     );
     mail = record { in_order = h.mail.in_order; room = h.mail.room };
     stations = h.stations;
@@ -84,7 +85,8 @@ radio_detached_change s itsi = record {
   };
 }
 
-pub groups_changed_change : (s : State) (itsi : ℕ) (mode : GroupMode) (items : List GroupUp) → apply_refusal s.registered s.groups itsi mode items ≡ None → IsChange s (groups_changed s itsi mode items)
+pub groups_changed_change : (s : State) (itsi : ℕ) (mode : GroupMode) (items : List GroupUp) →
+    apply_refusal s.registered s.groups itsi mode items ≡ None → IsChange s (groups_changed s itsi mode items)
 groups_changed_change s itsi mode items none = record {
   limits = refl;
   served = refl;
@@ -100,13 +102,16 @@ groups_changed_change s itsi mode items none = record {
 }
 
 -- so too of any value that is known to be such a change
-pub rule_set_state : (s : State) (new : Registered) (prefix : Path) (rule : Rule) → set_refusal s.registered prefix ≡ None → new ≡ with_rule s.registered prefix rule → IsState s → IsState (record s { registered = new })
+pub rule_set_state : (s : State) (new : Registered) (prefix : Path) (rule : Rule) → set_refusal s.registered prefix ≡ None →
+    new ≡ with_rule s.registered prefix rule → IsState s → IsState (record s { registered = new })
 rule_set_state s new prefix rule none e h = subst (λ r. IsState (record s { registered = r })) (sym e) ((rule_set_change s prefix rule none).state h)
 
 pub rule_cleared_state : (s : State) (new : Registered) (prefix : Path) → new ≡ without_rule s.registered prefix → IsState s → IsState (record s { registered = new })
 rule_cleared_state s new prefix e h = subst (λ r. IsState (record s { registered = r })) (sym e) ((rule_cleared_change s prefix).state h)
 
-pub radio_located_state : (s : State) (new : Registered) (groups : Attached) (itsi station area : ℕ) (update : LocationUpdateType) → room_refusal s.registered itsi ≡ None → new ≡ located s.registered itsi station area → groups ≡ after_update s.groups itsi update → IsState s → IsState (record s { registered = new; groups = groups })
+pub radio_located_state : (s : State) (new : Registered) (groups : Attached) (itsi station area : ℕ) (update : LocationUpdateType) →
+    room_refusal s.registered itsi ≡ None → new ≡ located s.registered itsi station area → groups ≡ after_update s.groups itsi update → IsState s →
+    IsState (record s { registered = new; groups = groups })
 radio_located_state s new groups itsi station area update none e f h =
     subst (λ r. IsState (record s { registered = r; groups = groups })) (sym e)
     (subst (λ m. IsState (record s { registered = located s.registered itsi station area; groups = m })) (sym f) ((radio_located_change s itsi station area update none).state h))
@@ -115,7 +120,8 @@ radio_located_state s new groups itsi station area update none e f h =
 pub new_located : (s : State) (itsi : ℕ) (update : LocationUpdateType) → IsState s → false ≡ has_radio s.registered itsi → s.groups ≡ after_update s.groups itsi update
 new_located s itsi update h new = sym (after_update_new s.registered s.groups itsi update h.attachments.1 (sym new))
 
-pub new_located_whole : (s : State) (new : Registered) (itsi station area : ℕ) (update : LocationUpdateType) → (room_refusal s.registered itsi ≡ None) × (new ≡ located s.registered itsi station area) → false ≡ has_radio s.registered itsi → IsState s
+pub new_located_whole : (s : State) (new : Registered) (itsi station area : ℕ) (update : LocationUpdateType) →
+    (room_refusal s.registered itsi ≡ None) × (new ≡ located s.registered itsi station area) → false ≡ has_radio s.registered itsi → IsState s
     → (room_refusal s.registered itsi ≡ None) × (record s { registered = new } ≡ radio_located s itsi station area update)
 new_located_whole s new itsi station area update done is_new h =
     (done.0, ap (λ r. record s { registered = r }) done.1 ∙ ap (λ m. record s { registered = located s.registered itsi station area; groups = m }) (new_located s itsi update h is_new))
@@ -123,10 +129,13 @@ new_located_whole s new itsi station area update done is_new h =
 pub radio_detached_state : (s : State) (new : Registered) (itsi : ℕ) → new ≡ detached s.registered itsi → IsState s → IsState (record s { registered = new })
 radio_detached_state s new itsi e h = subst (λ r. IsState (record s { registered = r })) (sym e) ((radio_detached_change s itsi).state h)
 
-pub groups_changed_state : (s : State) (groups : Attached) (itsi : ℕ) (mode : GroupMode) (items : List GroupUp) → apply_refusal s.registered s.groups itsi mode items ≡ None → groups ≡ applied s.registered s.groups itsi mode items → IsState s → IsState (record s { groups = groups })
+pub groups_changed_state : (s : State) (groups : Attached) (itsi : ℕ) (mode : GroupMode) (items : List GroupUp) →
+    apply_refusal s.registered s.groups itsi mode items ≡ None → groups ≡ applied s.registered s.groups itsi mode items → IsState s →
+    IsState (record s { groups = groups })
 groups_changed_state s groups itsi mode items none e h = subst (λ m. IsState (record s { groups = m })) (sym e) ((groups_changed_change s itsi mode items none).state h)
 
-pub same_state : (s : State) (new : Registered) (groups : Attached) (mail : Mailed) (served : List (Option LastAccepted)) → new ≡ s.registered → groups ≡ s.groups → mail ≡ s.mail → served ≡ s.served → IsState s
+pub same_state : (s : State) (new : Registered) (groups : Attached) (mail : Mailed) (served : List (Option LastAccepted)) → new ≡ s.registered →
+    groups ≡ s.groups → mail ≡ s.mail → served ≡ s.served → IsState s
     → IsState (record { registered = new; groups = groups; mail = mail; served = served; count = s.count })
 same_state s new groups mail served e f g k h = rw (e, f, g, k) h
 

@@ -2,13 +2,15 @@
 use Rattle.std.proofs.Common.{◌≡◌, Bool, true, false, cond, List, [], ◌∷◌, length, Some, None, refl, sym, ap, ◌∙◌, subst, arith}
 use Rattle.std.specs.Prelude.{T, ◌&&◌, not}
 use Rattle.std.specs.List.{All, filter}
-use Rattle.std.specs.Ordering.{eq_by_cmp, is_eq}
+use Rattle.std.specs.Ordering.{eq_by_cmp}
 use Rattle.std.specs.declared.cmp.Ordering.{Ordering}
 use Rattle.std.specs.declared.cmp.Ordering.TheVariants.{Less, Equal, Greater}
 use Rattle.std.specs.Cmp.{IsTotalOrder}
 use Rattle.std.specs.FinMap as map
 use Rattle.std.specs.FinMap.Entries.{by_order, put, find, below_all, is_sorted, is_sorted-where_key, find-where_key, where_key}
 use Rattle.std.proofs.lemmas.List.Elements.{All-nil, All-cons, All-head, All-tail, All-filter}
+use Rattle.base.proofs.Bools.{is_equal}
+use Rattle.base.proofs.Options.{some_is}
 use Rattle.centre_core.specs.StateRanges.{AllEntries}
 
 left : (a b : Bool) → T (a && b) → T a
@@ -26,14 +28,6 @@ both false b h k = h
 turned : {X : Type 0} (b : Bool) (x y : X) → cond b x y ≡ cond (not b) y x
 turned true x y = refl
 turned false x y = refl
-
-tie : (o : Ordering) → is_eq o ≡ true → o ≡ Equal
-tie Less e = cc
-tie Equal e = refl
-tie Greater e = cc
-
-same_value : {X : Type 0} (x y : X) → Some x ≡ Some y → x ≡ y
-same_value x y e = cc
 
 module _ {K X : Type 0} {R : K → K → Ordering} (total : IsTotalOrder R) (exact : map.IsAntisymmetric R) (P : K → X → Type 0) where
   abbrev Each : List (K × X) → Type 0
@@ -103,7 +97,7 @@ module _ {K X : Type 0} {R : K → K → Ordering} (total : IsTotalOrder R) (exa
   found q v [] all is = cc
   found q v (e ∷ es) all is =
       (elim (eq_by_cmp R q e.0) as (λ b. eq_by_cmp R q e.0 ≡ b → cond b (Some e.1) (find R q es) ≡ Some v → P q v) [
-        | true ↦ λ t here. subst (λ x. P x v) (sym (exact q e.0 (tie (R q e.0) t))) (subst (λ x. P e.0 x) (same_value e.1 v here) (All-head (λ e. P e.0 e.1) e es all))
+        | true ↦ λ t here. subst (λ x. P x v) (sym (exact q e.0 (is_equal (R q e.0) t))) (subst (λ x. P e.0 x) (some_is e.1 v here) (All-head (λ e. P e.0 e.1) e es all))
         | false ↦ λ t there. found q v es (All-tail (λ e. P e.0 e.1) e es all) there
       ]) refl is
 
@@ -113,7 +107,9 @@ module _ {K X : Type 0} {R : K → K → Ordering} (total : IsTotalOrder R) (exa
 
 pub empty_all : {K X : Type 0} (R : K → K → Ordering) (P : K → X → Type 0) → AllEntries P (map.empty {X = X} {R = R})
 empty_all {K} {X} R P =
-    subst (λ es. All (λ (e : K × X). P e.0 e.1) es) (sym (none (map.entries (map.empty {X = X} {R = R})) (sym (map.len-entries (map.empty {X = X} {R = R})) ∙ map.len-empty R X))) (All-nil (λ (e : K × X). P e.0 e.1))
+    subst (λ es. All (λ (e : K × X). P e.0 e.1) es)
+    (sym (none (map.entries (map.empty {X = X} {R = R})) (sym (map.len-entries (map.empty {X = X} {R = R})) ∙ map.len-empty R X)))
+    (All-nil (λ (e : K × X). P e.0 e.1))
   where
     none : (es : List (K × X)) → length es ≡ 0 → es ≡ []
     none [] e = refl

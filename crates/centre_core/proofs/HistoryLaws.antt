@@ -1,8 +1,9 @@
 -- What holds of histories.
-use Rattle.std.proofs.Common.{◌≡◌, ℕ, ◌+◌, ◌-◌, Bool, true, false, List, [], ◌∷◌, ◌++◌, length, refl, ap, ◌∙◌, arith, Option, Some, None}
+use Rattle.std.proofs.Common.{◌≡◌, ℕ, ◌+◌, ◌-◌, true, List, [], ◌∷◌, ◌++◌, length, refl, ap, ◌∙◌, arith, Option, Some, None}
 use Rattle.std.specs.Prelude.{◌==◌, nat_lt, if◌then◌else◌}
 use Rattle.std.specs.List.{slice_get}
 use Rattle.std.proofs.lemmas.Bool.Decides.{nat_tests}
+use Rattle.base.proofs.Bools.{if_true}
 use Rattle.centre_core.specs.declared.command.Command.{Command}
 use Rattle.centre_core.specs.State.{State, LastAccepted}
 use Rattle.centre_core.specs.Step.{last_at}
@@ -10,10 +11,6 @@ use Rattle.centre_core.specs.History.{accepts, next, after}
 use Rattle.centre_core.specs.Histories.{IsHistory, accepted_by, last_accepted_of}
 use Rattle.centre_core.specs.Laws.{HistoriesAreNumbered, LastAcceptedAreLast}
 use Rattle.centre_core.proofs.StationLaws.{HasPlaces, advanced, places_after, kept_next}
-
-if_so : {X : Type 0} (b : Bool) (x y : X) → b ≡ true → (if b then x else y) ≡ x
-if_so true x y e = refl
-if_so false x y e = cc
 
 module _ {A : Type 0} where
   -- the first commands of a history are one, and the next is accepted
@@ -37,12 +34,13 @@ module _ {A : Type 0} where
       let parts = prefix base bs c cs h in
       let above : nat_lt base.count (base.count + length bs + 1) ≡ true = grind (arith, nat_tests) in
       let place : base.count + length bs + 1 - base.count - 1 ≡ length bs = omega arith in (
-        if_so (nat_lt base.count (base.count + length bs + 1)) _ None above ∙ ap (slice_get (bs ++ c ∷ cs)) place ∙ here bs c cs,
+        if_true (nat_lt base.count (base.count + length bs + 1)) _ None above ∙ ap (slice_get (bs ++ c ∷ cs)) place ∙ here bs c cs,
         parts.1,
         ap (λ n. n + 1) (counted base bs parts.0),
       )
 
-  accepted_last : (base : State) → HasPlaces base → (cs : List (Command A)) → IsHistory base cs → (station : ℕ) (entry : Option LastAccepted) → last_at base station ≡ entry → last_at (after base cs) station ≡ last_accepted_of station entry base cs
+  accepted_last : (base : State) → HasPlaces base → (cs : List (Command A)) → IsHistory base cs → (station : ℕ) (entry : Option LastAccepted) →
+      last_at base station ≡ entry → last_at (after base cs) station ≡ last_accepted_of station entry base cs
   accepted_last base places [] h station entry e = e
   accepted_last base places (c ∷ cs) h station entry e =
       accepted_last (next base c) (places_after base (next base c) c (advanced base c h.0).0 places) cs h.1 station (if station == c.station then Some (accepted_by base c) else entry)

@@ -3,6 +3,7 @@ use Rattle.std.proofs.Common.{◌≡◌, ℕ, zero, suc, ◌<◌, ◌≤◌, ◌
 use Rattle.std.specs.Prelude.{◌&&◌, ◌||◌, slice_get}
 use Rattle.std.proofs.lemmas.List.{take-append-le}
 use Rattle.std.specs.List.{list_any}
+use Rattle.base.proofs.Lists.{get_within}
 use Rattle.mailbox.specs.Values.{Item}
 use Rattle.centre_core.specs.declared.command.Command.{Command}
 use Rattle.centre_core.specs.declared.reply.Reply.{Reply}
@@ -14,11 +15,6 @@ use Rattle.centre_core.specs.InTurn.{reply_to, Lands, IsLeftBy, Replied}
 use Rattle.centre_core.specs.Histories.{IsHistory}
 use Rattle.centre_core.proofs.RepliesSay.{replies_say}
 use Rattle.centre_core.proofs.HistoryLaws.{counted_next}
-
-pub get_within : {X : Type 0} (xs : List X) (k : ℕ) (x : X) → slice_get xs k ≡ Some x → k < length xs
-get_within [] k x h = absurd cc
-get_within (y ∷ ys) zero x h = omega arith
-get_within (y ∷ ys) (suc k) x h = let r = get_within ys k x h in omega arith
 
 get_more : {X : Type 0} (xs ys : List X) (k : ℕ) (x : X) → slice_get xs k ≡ Some x → slice_get (xs ++ ys) k ≡ Some x
 get_more [] ys k x h = absurd cc
@@ -63,7 +59,8 @@ module _ {A : Type 0} where
   left_by_first s c l k last pos (Kept n p) is says a h = absurd (true≢false (sym a))
   left_by_first s c l k last pos (Refused r) is says a h = absurd (true≢false (sym a))
 
-  pub kept_is_there : (s : State) (cs : List (Command A)) → IsHistory s cs → (k : ℕ) (last : LastAccepted) → 0 < k → last_at (after s cs) k ≡ Some last → IsLeftBy s cs k last ⊎ (last_at s k ≡ Some last)
+  pub kept_is_there : (s : State) (cs : List (Command A)) → IsHistory s cs → (k : ℕ) (last : LastAccepted) → 0 < k →
+      last_at (after s cs) k ≡ Some last → IsLeftBy s cs k last ⊎ (last_at s k ≡ Some last)
   kept_is_there s [] a k last pos h = inr h
   kept_is_there s (c ∷ cs) a k last pos h =
       let here = a.0 in

@@ -46,7 +46,8 @@ module _ {A : Type 0} where
   after_taken s [] = refl
   after_taken s (c ∷ cs) = after_taken_by (accepts s c) s c cs refl (after_taken (next s c) cs)
 
-  taken_history_by : (b : Bool) (s : State) (c : Command A) (cs : List (Command A)) → accepts s c ≡ b → IsHistory (next s c) (taken (next s c) cs) → IsHistory s (cond b (c ∷ taken (next s c) cs) (taken (next s c) cs))
+  taken_history_by : (b : Bool) (s : State) (c : Command A) (cs : List (Command A)) → accepts s c ≡ b → IsHistory (next s c) (taken (next s c) cs) →
+      IsHistory s (cond b (c ∷ taken (next s c) cs) (taken (next s c) cs))
   taken_history_by true s c cs is h = (is, h)
   taken_history_by false s c cs is h = subst (λ t. IsHistory t (taken (next s c) cs)) (not_accepted s c is) h
 

@@ -14,6 +14,7 @@ pub mod StateLaws
 pub mod ResendLaws
 pub mod MailLaws
 pub mod UpdateLaws
+pub mod ShortPdus
 pub mod ReplyLaws
 pub mod RepliesSay
 pub mod InTurnLaws

@@ -4,6 +4,7 @@ use Rattle.std.specs.Prelude.{◌&&◌, ◌||◌, ◌⊎◌, ◌↔◌, IfOk, Re
 use Rattle.std.specs.List.{Contains}
 use Rattle.std.proofs.lemmas.List.Elements.{All-contains}
 use mathlib.Core.Bool.{false≢true}
+use Rattle.base.proofs.Bools.{rest_false, not_both}
 use Rattle.mailbox.specs.Values.{Item}
 use Rattle.mailbox.specs.Item.{is_message}
 use Rattle.mailbox.specs.Sound.{IsNumbered}
@@ -72,26 +73,11 @@ one_true true true e h = inl (refl, refl)
 one_true true false e h = inr h
 one_true false n e h = inr h
 
-second_false : (a n : Bool) → a ≡ true → (a && n) ≡ false → n ≡ false
-second_false true n e h = h
-second_false false n e h = absurd (false≢true e)
-
-first_false : (a n : Bool) → a ≡ false → (a && n) ≡ false
-first_false true n e = absurd (false≢true (sym e))
-first_false false n e = refl
-
-not_second : (a n : Bool) → n ≡ false → (a && n) ≡ false
-not_second true n e = e
-not_second false n e = refl
-
-true_false : (b : Bool) → b ≡ true → b ≡ false → ⊥
-true_false b t f = false≢true (sym f ∙ t)
-
 module _ {A : Type 0} where
   stays_next : (s : State) (c : Command A) (m : Item) → is_message m ≡ true → Contains s.mail.items m → (accepts s c && names c m) ≡ false → Contains (next s c).mail.items m
   stays_next s c m is here none =
       elim (outcome s c) [
-        | inl h ↦ (changed s (next s c) c h.1).unended m is here (second_false (accepts s c) (names c m) h.0 none)
+        | inl h ↦ (changed s (next s c) c h.1).unended m is here (rest_false (accepts s c) (names c m) h.0 none)
         | inr h ↦ subst (λ u. Contains u.mail.items m) (sym h.1) here
       ]
 
@@ -105,7 +91,7 @@ module _ {A : Type 0} where
   gone_next s c m is low ok ends here =
       elim (outcome s c) [
         | inl h ↦ (changed s (next s c) c h.1).gone m is low ends here
-        | inr h ↦ true_false (accepts s c) ok h.0
+        | inr h ↦ not_both (accepts s c) ok h.0
       ]
 
   goes : (s : State) (cs : List (Command A)) (m : Item) → is_message m ≡ true → m.number ≤ s.count → ended s cs m ≡ true → Contains (after s cs).mail.items m → ⊥
@@ -131,7 +117,7 @@ module _ {A : Type 0} where
   made_next s c m ok e =
       elim (outcome s c) [
         | inl h ↦ (changed s (next s c) c h.1).made m e
-        | inr h ↦ absurd (true_false (accepts s c) ok h.0)
+        | inr h ↦ absurd (not_both (accepts s c) ok h.0)
       ]
 
 pub none_lost : {A : Type 0} → NoneLost A
@@ -144,7 +130,8 @@ none_lost_made s state bs c cs m ok e =
     let goes_on : after s (bs ++ c ∷ cs) ≡ after t cs = after_append s bs (c ∷ cs) in
     subst (λ u. (¬ Contains u.mail.items m) ↔ (ended t cs m ≡ true)) (sym goes_on) (exactly t (next_is_state (after s bs) c (state_after s bs state)) cs m h.0 h.1)
 
-stays_or_ends : {A : Type 0} (s t : State) (c : Command A) (accepted : Bool) (m : Item) → ((accepted ≡ true) × Advanced s t c) ⊎ ((accepted ≡ false) × (t ≡ s)) → is_message m ≡ true → Contains s.mail.items m → (b : Bool) → names c m ≡ b
+stays_or_ends : {A : Type 0} (s t : State) (c : Command A) (accepted : Bool) (m : Item) → ((accepted ≡ true) × Advanced s t c) ⊎
+    ((accepted ≡ false) × (t ≡ s)) → is_message m ≡ true → Contains s.mail.items m → (b : Bool) → names c m ≡ b
     → Contains t.mail.items m ⊎ ((accepted ≡ true) × (names c m ≡ true))
 stays_or_ends s t c accepted m (inl h) is here true e = inr (h.0, e)
 stays_or_ends s t c accepted m (inl h) is here false e = inl ((changed s t c h.1).unended m is here e)
@@ -155,6 +142,7 @@ messages_stay : {A : Type 0} (B : Type 0) (s : State) (c : Command A) → Messag
 messages_stay B s c m is here = stays_or_ends s (step {B = B} s c).0 c (is_acceptance (step {B = B} s c).1) m (outcome_by s (step {B = B} s c).0 c (step s c).1 (says B s c)) is here (names c m) refl
 
 -- so too of a reply that is the step's
-pub stay_by_reply : {A B E : Type 0} (s t : State) (c : Command A) (r : Result (Reply B) E) → IfOk r (λ reply. (t, reply) ≡ step s c) → IfOk r (λ reply. MessagesStay s.mail t.mail (is_acceptance reply) (names c))
+pub stay_by_reply : {A B E : Type 0} (s t : State) (c : Command A) (r : Result (Reply B) E) → IfOk r (λ reply. (t, reply) ≡ step s c) →
+    IfOk r (λ reply. MessagesStay s.mail t.mail (is_acceptance reply) (names c))
 stay_by_reply s t c (Ok reply) h = subst (λ p. MessagesStay s.mail p.0.mail (is_acceptance p.1) (names c)) (sym h) (messages_stay _ s c)
 stay_by_reply s t c (Err e) h = tt

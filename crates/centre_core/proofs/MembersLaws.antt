@@ -8,10 +8,10 @@ use Rattle.std.specs.declared.cmp.Ordering.TheVariants.{Less, Equal, Greater}
 use Rattle.std.specs.Cmp.{ranks}
 use Rattle.std.specs.FinMap as finite
 use Rattle.std.specs.FinMap.Entries.{find, below_all, is_sorted}
-use Rattle.std.proofs.lemmas.Bool.Decides.{nat_tests}
 use mathlib.Core.Bool.{false≢true}
 use Rattle.std.proofs.lemmas.List.Elements.{All-nil, All-cons, All-head, All-tail, All-weaker}
 use Rattle.std.proofs.lemmas.List.Kept.{AllPairs-cons}
+use Rattle.base.proofs.Numbers.{same_by_test}
 use Rattle.group_attach.specs.Attached.{Pair, Usage, Attached, pair_cmp, attachment_of, of_group}
 use Rattle.centre_core.specs.State.{State}
 use Rattle.centre_core.specs.Step.{members}
@@ -24,9 +24,6 @@ is_of group e = e.0.1 ≡ group
 
 abbrev radios : List Entry → List ℕ
 radios es = map (λ a. a.itsi) (map attachment_of es)
-
-same_number : (a b : ℕ) → (a == b) ≡ true → a ≡ b
-same_number a b h = grind (arith, nat_tests)
 
 left : (a b : Bool) → T (a && b) → T a
 left true b h = tt
@@ -107,7 +104,7 @@ alike g q x e = ap (λ n. n == g) (sym (finite.nat_cmp-IsAntisymmetric q.1 x.1 (
 of_one_group : (m : Attached) (g : ℕ) → All (is_of g) (finite.entries (of_group m g))
 of_one_group m g =
     let is_in : Pair → Bool = λ pair. pair.1 == g in
-    All-weaker (λ (e : Entry). is_in e.0 ≡ true) (is_of g) (λ e h. same_number e.0.1 g h) (finite.entries (of_group m g))
+    All-weaker (λ (e : Entry). is_in e.0 ≡ true) (is_of g) (λ e h. same_by_test e.0.1 g h) (finite.entries (of_group m g))
     (all_pass is_in (finite.entries (of_group m g)) (λ q out. sym (finite.get-entries (of_group m g) q) ∙ finite.get-retain_keys m is_in q (alike g q) ∙ ap (λ b. cond b (finite.get m q) None) out))
 
 members_rise : (s : State) (group : ℕ) → AllPairs (λ a b. a < b) (members s group)

@@ -5,6 +5,7 @@ use Rattle.std.specs.Option.{option_map}
 use Rattle.std.specs.Result.{result_map_both}
 use Rattle.std.specs.List.{AllByRecursion, flat_map, filter_map, cons_option}
 use Rattle.std.proofs.lemmas.List.{length-append}
+use Rattle.base.proofs.Lists.{all_append}
 use Rattle.identity.specs.Number.{num}
 use Rattle.identity.specs.Inside.NumberLaws.{length-num}
 use Rattle.identity.specs.Identity.{mcc_of, mnc_of, ssi_of}
@@ -84,10 +85,6 @@ transfer_read pdu reference is = let head = transfer_by (heading pdu) reference 
 
 -- ---- groups of a radio
 
-all_of_append : {X : Type 0} (P : X → Type 0) (xs ys : List X) → AllByRecursion P xs → AllByRecursion P ys → AllByRecursion P (xs ++ ys)
-all_of_append P [] ys h k = k
-all_of_append P (x ∷ xs) ys h k = (h.0, all_of_append P xs ys h.1 k)
-
 of_element : (b : Bool) (prefix : List GroupUp) (body : Type 0) → MatchBool b (AllByRecursion IsGroupUp prefix × body) (prefix ≡ []) → AllByRecursion IsGroupUp prefix
 of_element true prefix body h = h.0
 of_element false prefix body none = subst (AllByRecursion IsGroupUp) (sym none) tt
@@ -95,10 +92,13 @@ of_element false prefix body none = subst (AllByRecursion IsGroupUp) (sym none) 
 groups_are : (es : List Element) (items : List GroupUp) → GroupsOf es items → AllByRecursion IsGroupUp items
 groups_are [] items none = subst (AllByRecursion IsGroupUp) (sym none) tt
 groups_are (e ∷ es) items (prefix, back, is, body, later) =
-    subst (AllByRecursion IsGroupUp) (sym is) (all_of_append IsGroupUp prefix back (of_element (e.identifier == identity_uplink) prefix (e.body ≡ groups_body group_up prefix) body) (groups_are es back later))
+    subst (AllByRecursion IsGroupUp) (sym is)
+    (all_append IsGroupUp prefix back (of_element (e.identifier == identity_uplink) prefix (e.body ≡ groups_body group_up prefix) body)
+    (groups_are es back later))
 
 -- there are at most 32 groups in a PDU, each in its range
-pub groups_read : {A : Type 0} (pdu : List Bool) (mode : GroupMode) (items : List GroupUp) → reading_up {A = A} pdu ≡ Ok (up.Groups mode items) → (length items ≤ most_groups) × AllByRecursion IsGroupUp items
+pub groups_read : {A : Type 0} (pdu : List Bool) (mode : GroupMode) (items : List GroupUp) → reading_up {A = A} pdu ≡ Ok (up.Groups mode items) →
+    (length items ≤ most_groups) × AllByRecursion IsGroupUp items
 groups_read pdu mode items is =
     let (report, x, extended, groups, few, text) = uplink.is_spelt pdu (Ok (up.Groups mode items)) is in
     (few, groups_are (elements_of x) items groups)
@@ -116,7 +116,16 @@ address_short (Full gtsi) =
     let ssi = num 24 (ssi_of gtsi) in
     let mcc = num 10 (mcc_of gtsi) in
     let mnc = num 14 (mnc_of gtsi) in
-    omega (arith, length-append (num 2 1) ssi, length-append (num 2 1 ++ ssi) mcc, length-append (num 2 1 ++ ssi ++ mcc) mnc, length-num 2 1, length-num 24 (ssi_of gtsi), length-num 10 (mcc_of gtsi), length-num 14 (mnc_of gtsi))
+    omega (
+      arith,
+      length-append (num 2 1) ssi,
+      length-append (num 2 1 ++ ssi) mcc,
+      length-append (num 2 1 ++ ssi ++ mcc) mnc,
+      length-num 2 1,
+      length-num 24 (ssi_of gtsi),
+      length-num 10 (mcc_of gtsi),
+      length-num 14 (mnc_of gtsi),
+    )
 
 group_short : (g : GroupDown) → length (group_down g) ≤ 56
 group_short (down.Attach lifetime class a) =

@@ -26,11 +26,13 @@ module _ (B C : Type 0) where
   moved_prefix (Ok p) = Ok (moved_pdu p.0, p.1)
   moved_prefix (Err fault) = Err fault
 
-  moved_bind : {X : Type 0} (r : Result X MmFault) (k : X → Result (MmUp B × List Bool) MmFault) (l : X → Result (MmUp C × List Bool) MmFault) → ((x : X) → l x ≡ moved_prefix (k x)) → (r >>= l) ≡ moved_prefix (r >>= k)
+  moved_bind : {X : Type 0} (r : Result X MmFault) (k : X → Result (MmUp B × List Bool) MmFault) (l : X → Result (MmUp C × List Bool) MmFault) →
+      ((x : X) → l x ≡ moved_prefix (k x)) → (r >>= l) ≡ moved_prefix (r >>= k)
   moved_bind (Ok x) k l h = h x
   moved_bind (Err fault) k l h = refl
 
-  moved_if : (b : Bool) (x y : Result (MmUp B × List Bool) MmFault) (v w : Result (MmUp C × List Bool) MmFault) → v ≡ moved_prefix x → w ≡ moved_prefix y → (if b then v else w) ≡ moved_prefix (if b then x else y)
+  moved_if : (b : Bool) (x y : Result (MmUp B × List Bool) MmFault) (v w : Result (MmUp C × List Bool) MmFault) → v ≡ moved_prefix x →
+      w ≡ moved_prefix y → (if b then v else w) ≡ moved_prefix (if b then x else y)
   moved_if true x y v w h k = h
   moved_if false x y v w h k = k
 
@@ -40,7 +42,10 @@ module _ (B C : Type 0) where
 
   demand_moved : (bits : List Bool) → demand_at {A = C} bits ≡ moved_prefix (demand_at {A = B} bits)
   unfolding demand_at
-  demand_moved bits = moved_bind (field_at 3 bits) _ _ (λ number. moved_bind (known (update_of number.0)) _ _ (λ update. moved_bind (bit_at number.1) _ _ (λ append. moved_bind (optional_at 10 append.1) _ _ (λ rest. moved_bind (extension_at demand_widths rest) _ _ (λ end. refl)))))
+  demand_moved bits = moved_bind (field_at 3 bits) _ _
+      (λ number. moved_bind (known (update_of number.0)) _ _
+      (λ update. moved_bind (bit_at number.1) _ _
+      (λ append. moved_bind (optional_at 10 append.1) _ _ (λ rest. moved_bind (extension_at demand_widths rest) _ _ (λ end. refl)))))
 
   -- each group is read by this function
   module _ (group_at : List Bool → Result (GroupUp × List Bool) MmFault) where

@@ -15,13 +15,16 @@ use Rattle.registration.specs.declared.fault.RegFault.TheVariants.{RulesFull, Co
 use Rattle.registration.specs.Registered.{Registered, empty_registered, radio_of, set_refusal, with_rule, without_rule, room_refusal, located, detached_at, detached, absent}
 use Rattle.centre_core.specs.State.{IsWithin}
 
-room : (known free : Bool) (n limit : ℕ) (full : RegFault) → free ≡ nat_lt n limit → (if known then None else (if free then None else Some full)) ≡ None → n ≤ limit → (if known then n else n + 1) ≤ limit
+room : (known free : Bool) (n limit : ℕ) (full : RegFault) → free ≡ nat_lt n limit →
+    (if known then None else (if free then None else Some full)) ≡ None → n ≤ limit → (if known then n else n + 1) ≤ limit
 room true free n limit full e h fits = fits
 room false true n limit full e h fits = grind (arith, nat_tests)
 room false false n limit full e h fits = cc
 
 -- one more entry fits, or one is replaced
-room_for : {V : Type 0} (m : PathMap V) (k : Path) (v : V) (limit : ℕ) (full : RegFault) → (if is_some (map.get m k) then None else (if nat_lt (map.len m) limit then None else Some full)) ≡ None → map.len m ≤ limit → map.len (map.insert m k v) ≤ limit
+room_for : {V : Type 0} (m : PathMap V) (k : Path) (v : V) (limit : ℕ) (full : RegFault) →
+    (if is_some (map.get m k) then None else (if nat_lt (map.len m) limit then None else Some full)) ≡ None → map.len m ≤ limit →
+    map.len (map.insert m k v) ≤ limit
 room_for m k v limit full h fits = subst (λ n. n ≤ limit) (sym (map.len-insert paths_total m k v)) (room (is_some (map.get m k)) (nat_lt (map.len m) limit) (map.len m) limit full refl h fits)
 
 pub with_rule_within : (r : Registered) (prefix : Path) (rule : Rule) → set_refusal r prefix ≡ None → IsWithin r → IsWithin (with_rule r prefix rule)
@@ -33,7 +36,9 @@ one_less false n = omega arith
 
 pub without_rule_within : (r : Registered) (prefix : Path) → IsWithin r → IsWithin (without_rule r prefix)
 without_rule_within r prefix h =
-    let fewer : map.len (map.remove r.rules prefix) ≤ map.len r.rules = subst (λ n. n ≤ map.len r.rules) (sym (map.len-remove paths_total r.rules prefix)) (one_less (is_some (map.get r.rules prefix)) (map.len r.rules)) in
+    let fewer : map.len (map.remove r.rules prefix) ≤ map.len r.rules =
+    subst (λ n. n ≤ map.len r.rules) (sym (map.len-remove paths_total r.rules prefix))
+    (one_less (is_some (map.get r.rules prefix)) (map.len r.rules)) in
     record { rules = omega (arith, fewer, h.rules); radios = h.radios }
 
 pub located_within : (r : Registered) (itsi station area : ℕ) → room_refusal r itsi ≡ None → IsWithin r → IsWithin (located r itsi station area)
@@ -44,7 +49,9 @@ detached_at_within r itsi None e h = h
 detached_at_within r itsi (Some radio) e h =
     record {
       rules = h.rules;
-      radios = subst (λ n. n ≤ r.limits.radios) (sym (map.len-insert paths_total r.radios (id_path itsi) (absent radio) ∙ ap (λ o. if is_some o then map.len r.radios else (map.len r.radios + 1)) e)) h.radios;
+      radios = subst (λ n. n ≤ r.limits.radios)
+          (sym (map.len-insert paths_total r.radios (id_path itsi) (absent radio) ∙
+          ap (λ o. if is_some o then map.len r.radios else (map.len r.radios + 1)) e)) h.radios;
     }
 
 pub detached_within : (r : Registered) (itsi : ℕ) → IsWithin r → IsWithin (detached r itsi)

@@ -49,13 +49,15 @@ module _ {A B : Type 0} where
   mm_not s c itsi area (Ok up.Detach) n p e = made_not s _ c _ _ n p e
   mm_not s c itsi area (Ok (up.Groups mode items)) n p e = made_not s _ c _ _ n p e
 
-  sds_not : (s : State) (c : Command A) (source destination : ℕ) (pdu : List Bool) (head : Result Head SdsFault) (n : ℕ) (p : Option (List Bool)) → IsRepeat B (step_sds s c source destination pdu head) n p → ⊥
+  sds_not : (s : State) (c : Command A) (source destination : ℕ) (pdu : List Bool) (head : Result Head SdsFault) (n : ℕ) (p : Option (List Bool)) →
+      IsRepeat B (step_sds s c source destination pdu head) n p → ⊥
   sds_not s c source destination pdu (Err fault) n p e = cc
   sds_not s c source destination pdu (Ok (heads.Transfer request reference)) n p e = made_not s _ c _ _ n p e
   sds_not s c source destination pdu (Ok (heads.Report acknowledge status reference)) n p e = made_not s _ c _ _ n p e
   sds_not s c source destination pdu (Ok (heads.Ack status reference)) n p e = made_not s _ c _ _ n p e
 
-  group_not : (s : State) (c : Command A) (source group : ℕ) (pdu : List Bool) (read : Result ℕ SdsFault) (n : ℕ) (p : Option (List Bool)) → IsRepeat B (step_group_sds s c source group pdu read) n p → ⊥
+  group_not : (s : State) (c : Command A) (source group : ℕ) (pdu : List Bool) (read : Result ℕ SdsFault) (n : ℕ) (p : Option (List Bool)) →
+      IsRepeat B (step_group_sds s c source group pdu read) n p → ⊥
   group_not s c source group pdu (Err fault) n p e = cc
   group_not s c source group pdu (Ok reference) n p e = made_not s _ c _ _ n p e
 
@@ -117,14 +119,18 @@ module _ {A : Type 0} (B : Type 0) where
         number,
         ap (λ u. u.count) a.is ∙ ap (λ m. m + 1) a.change.count,
         λ k e pos h.
-            let put : get_or (set s.served (c.station - 1) (Some last)) (k - 1) None ≡ Some e = sym (ap (λ u. get_or u.served (k - 1) None) a.is ∙ ap (λ l. get_or (slice_set l (c.station - 1) (Some last)) (k - 1) None) a.change.served) ∙ (sym (last_at_is t k pos) ∙ h) in
+            let put : get_or (set s.served (c.station - 1) (Some last)) (k - 1) None ≡ Some e =
+            sym (ap (λ u. get_or u.served (k - 1) None) a.is ∙
+            ap (λ l. get_or (slice_set l (c.station - 1) (Some last)) (k - 1) None) a.change.served) ∙ (sym (last_at_is t k pos) ∙ h) in
             elim (kept_put s.served (c.station - 1) (k - 1) last e put) [
               | inl q ↦ inl (let i : k - 1 ≡ c.station - 1 = q.0 in omega arith, q.1 ∙ is)
               | inr q ↦ inr (last_at_is s k pos ∙ q)
             ],
       )
 
-  replied_by : (s t : State) (c : Command A) (reply : Reply B) → Outcome s c t reply → (((refusal : Refusal B) → reply ≢ Refused refusal) → 0 < c.station) → ((n : ℕ) (p : Option (List Bool)) → reply ≡ Kept n p → last_at s c.station ≡ Some (last_of c n p)) → Replied s c t reply
+  replied_by : (s t : State) (c : Command A) (reply : Reply B) → Outcome s c t reply →
+      (((refusal : Refusal B) → reply ≢ Refused refusal) → 0 < c.station) →
+      ((n : ℕ) (p : Option (List Bool)) → reply ≡ Kept n p → last_at s c.station ≡ Some (last_of c n p)) → Replied s c t reply
   replied_by s t c (Accepted n p) h station kept = advanced s t c n p h.0 h.1 h.2 (station (λ r e. cc))
   replied_by s t c (Kept n p) h station kept = (h, station (λ r e. cc), kept n p refl)
   replied_by s t c (Refused refusal) h station kept = h

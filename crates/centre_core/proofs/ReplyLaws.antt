@@ -2,6 +2,8 @@
 use Rattle.std.proofs.Common.{◌≡◌, ℕ, ◌+◌, Bool, true, false, List, refl, ap, sym, ◌∙◌, subst, arith, Option, Some}
 use Rattle.std.specs.Prelude.{◌==◌, nat_lt, if◌then◌else◌}
 use Rattle.std.proofs.lemmas.Bool.Decides.{nat_tests}
+use Rattle.base.proofs.Bools.{if_true}
+use Rattle.base.proofs.Numbers.{test_by_same}
 use Rattle.centre_core.specs.declared.command.Command.{Command}
 use Rattle.centre_core.specs.declared.reply.Reply.{Reply}
 use Rattle.centre_core.specs.declared.reply.Refusal.{Refusal}
@@ -41,10 +43,6 @@ pub accepted_are_numbered : {A : Type 0} (B : Type 0) → AcceptedAreNumbered A 
 accepted_are_numbered B s c number pdu e =
     let h = accepted_with {B = B} s c number pdu e in (h.1, ap (λ t. t.count) h.0.is ∙ ap (λ n. n + 1) h.0.change.count ∙ sym h.1)
 
-if_true : {X : Type 0} (b : Bool) (x y : X) → b ≡ true → (if b then x else y) ≡ x
-if_true true x y e = refl
-if_true false x y e = cc
-
 if_false : {X : Type 0} (b : Bool) (x y : X) → b ≡ false → (if b then x else y) ≡ y
 if_false true x y e = cc
 if_false false x y e = refl
@@ -52,15 +50,14 @@ if_false false x y e = refl
 not_below : (n m : ℕ) → n ≡ m → nat_lt n m ≡ false
 not_below n m e = grind (arith, nat_tests)
 
-equals : (n m : ℕ) → n ≡ m → (n == m) ≡ true
-equals n m e = grind (arith, nat_tests)
-
 module _ {A B : Type 0} where
   -- the last command again
-  answered : (t : State) (d : Command A) (last : LastAccepted) → is_station t d.station ≡ true → last_at t d.station ≡ Some last → d.sequence ≡ last.sequence → step {B = B} t d ≡ (t, Kept last.number last.pdu)
+  answered : (t : State) (d : Command A) (last : LastAccepted) → is_station t d.station ≡ true → last_at t d.station ≡ Some last →
+      d.sequence ≡ last.sequence → step {B = B} t d ≡ (t, Kept last.number last.pdu)
   unfolding step
   answered t d last here known same =
-      if_true (is_station t d.station) _ _ here ∙ ap (λ k. step_after t d k) known ∙ if_false (nat_lt d.sequence last.sequence) _ _ (not_below _ _ same) ∙ if_true (d.sequence == last.sequence) _ _ (equals _ _ same)
+      if_true (is_station t d.station) _ _ here ∙ ap (λ k. step_after t d k) known ∙
+      if_false (nat_lt d.sequence last.sequence) _ _ (not_below _ _ same) ∙ if_true (d.sequence == last.sequence) _ _ (test_by_same _ _ same)
 
 pub resends_are_answered : {A : Type 0} (B : Type 0) → ResendsAreAnswered A B
 resends_are_answered B s state c again number pdu e same_station same_sequence =

@@ -5,6 +5,7 @@ use Rattle.std.specs.List.{list_any}
 use Rattle.std.proofs.lemmas.Bool.Decides.{nat_tests}
 use Rattle.std.proofs.lemmas.Bool.{cases_eq}
 use mathlib.Core.Bool.{false≢true}
+use Rattle.base.proofs.Bools.{rest_false, both_true, and_is_true}
 use Rattle.centre_core.specs.declared.command.Command.{Command}
 use Rattle.centre_core.specs.declared.reply.Reply.{Reply}
 use Rattle.centre_core.specs.declared.reply.Reply.TheVariants.{Accepted, Kept, Refused}
@@ -14,18 +15,6 @@ use Rattle.centre_core.specs.History.{is_acceptance, accepts, next, after, has_r
 use Rattle.centre_core.specs.Laws.{ResendsAreIdle}
 use Rattle.centre_core.proofs.StepLaws.{Advanced, Outcome, says}
 use Rattle.centre_core.proofs.StationLaws.{HasPlaces, of_station, same_stations, kept_here, kept_elsewhere, places_after}
-
-and_both : (a b : Bool) → (a && b) ≡ true → (a ≡ true) × (b ≡ true)
-and_both true b h = (refl, h)
-and_both false b h = absurd (false≢true h)
-
-both_and : (a b : Bool) → a ≡ true → b ≡ true → (a && b) ≡ true
-both_and true b e h = h
-both_and false b e h = absurd (false≢true e)
-
-second_false : (a b : Bool) → a ≡ true → (a && b) ≡ false → b ≡ false
-second_false true b e h = h
-second_false false b e h = absurd (false≢true e)
 
 below_or_equal : (q last : ℕ) → nat_le q last ≡ true → (nat_lt q last || (q == last)) ≡ true
 below_or_equal q last h = grind (arith, nat_tests)
@@ -46,11 +35,13 @@ module _ {A : Type 0} where
   idle_after s c None h = absurd (false≢true h)
   idle_after s c (Some last) h =
       idle_if s (nat_lt c.sequence last.sequence) _ _ (λ _. (refl, refl))
-      (λ e. idle_if s (c.sequence == last.sequence) _ _ (λ _. (refl, refl)) (λ f. absurd (false≢true (sym f ∙ later (nat_lt c.sequence last.sequence) (c.sequence == last.sequence) (below_or_equal c.sequence last.sequence h) e))))
+      (λ e. idle_if s (c.sequence == last.sequence) _ _ (λ _. (refl, refl))
+      (λ f. absurd (false≢true
+      (sym f ∙ later (nat_lt c.sequence last.sequence) (c.sequence == last.sequence) (below_or_equal c.sequence last.sequence h) e))))
 
   idle : (s : State) (c : Command A) → has_reached s c.station c.sequence ≡ true → Idle s (step s c)
   unfolding step
-  idle s c h = idle_if s (is_station s c.station) _ _ (λ _. idle_after s c (last_at s c.station) (and_both _ _ h).1) (λ _. (refl, refl))
+  idle s c h = idle_if s (is_station s c.station) _ _ (λ _. idle_after s c (last_at s c.station) (both_true _ _ h).1) (λ _. (refl, refl))
 
   is_new : (s : State) (c : Command A) (b : Bool) → has_reached s c.station c.sequence ≡ b → accepts s c ≡ true → b ≡ false
   is_new s c false e ok = refl
@@ -88,7 +79,7 @@ module _ {A : Type 0} where
   here_after s t c h places ok q low =
       let here : is_station s c.station ≡ true = of_station A s c ok in
       let known : last_at t c.station ≡ Some (record { sequence = c.sequence; number = h.made.count + 1; pdu = h.pdu }) = kept_here s t c h places here in
-      both_and (is_station t c.station) _ (same_stations s t c h c.station ∙ here) (subst (λ k. is_at_least q k ≡ true) (sym known) low)
+      and_is_true (is_station t c.station) _ (same_stations s t c h c.station ∙ here) (subst (λ k. is_at_least q k ≡ true) (sym known) low)
 
   other_after : (s t : State) (c : Command A) → Advanced s t c → accepts s c ≡ true → (i q : ℕ) → i ≢ c.station → has_reached t i q ≡ has_reached s i q
   other_after s t c h ok i q apart = λ j. same_stations s t c h i j && is_at_least q (kept_elsewhere s t c h (of_station A s c ok) i apart j)
@@ -102,7 +93,9 @@ module _ {A : Type 0} where
       elim (outcome s c) [
         | inl o ↦ elim (cases_eq i c.station) [
           | inl e ↦ let there : has_reached s c.station q ≡ true = subst (λ n. has_reached s n q ≡ true) e h in
-              let low : nat_le q c.sequence ≡ true = by_kept (last_at s c.station) q c.sequence (and_both _ _ there).1 (second_false (is_station s c.station) _ (and_both _ _ there).0 (is_new s c _ refl o.0)) in
+              let low : nat_le q c.sequence ≡ true =
+              by_kept (last_at s c.station) q c.sequence (both_true _ _ there).1
+              (rest_false (is_station s c.station) _ (both_true _ _ there).0 (is_new s c _ refl o.0)) in
               subst (λ n. has_reached (next s c) n q ≡ true) (sym e) (here_after s (next s c) c o.1 places o.0 q low)
           | inr apart ↦ other_after s (next s c) c o.1 o.0 i q apart ∙ h
         ]
@@ -113,7 +106,8 @@ module _ {A : Type 0} where
   abbrev Knows : State → List (Command A) → State → Type 0
   Knows s done now = (c : Command A) → is_resend s done c ≡ true → has_reached now c.station c.sequence ≡ true
 
-  knows_more : (s : State) (done : List (Command A)) (now : State) (d : Command A) → HasPlaces now → Knows s done now → accepts now d ≡ true → Advanced now (next now d) d → Knows s (d ∷ done) (next now d)
+  knows_more : (s : State) (done : List (Command A)) (now : State) (d : Command A) → HasPlaces now → Knows s done now → accepts now d ≡ true →
+      Advanced now (next now d) d → Knows s (d ∷ done) (next now d)
   knows_more s done now d places knows ok h c again =
       elim (one_of (has_reached s c.station c.sequence) (is_no_later c d) (list_any (is_no_later c) done) again) [
         | inl e ↦ rises now d places c.station c.sequence (knows c e)

@@ -76,7 +76,8 @@ module _ {A : Type 0} (B C : Type 0) where
   after_by : (s : State) (c : Command A) (kept : Option LastAccepted) → step_after {B = C} s (under B c) kept ≡ step_after {B = C} s c kept
   after_by s c None = new_same s c
   after_by s c (Some last) =
-      ap (λ (r : State × Reply C). if nat_lt c.sequence last.sequence then (s, Refused (OldSequence last.sequence)) else (if c.sequence == last.sequence then (s, Kept last.number last.pdu) else r)) (new_same s c)
+      ap (λ (r : State × Reply C). if nat_lt c.sequence last.sequence then (s, Refused (OldSequence last.sequence)) else
+      (if c.sequence == last.sequence then (s, Kept last.number last.pdu) else r)) (new_same s c)
 
   pub step_is_same : StepIsSame A B C
   unfolding step
@@ -116,7 +117,8 @@ module _ {A : Type 0} (B : Type 0) where
       let more : List (Command A) = cond (accepts now c) (c ∷ done) done in
       let since : cond (accepts now (under B c)) (under B c ∷ map (under B) done) (map (under B) done) ≡ map (under B) more =
       ap (λ b. cond b (under B c ∷ map (under B) done) (map (under B) done)) (accepts_are_same now c) ∙ done_same (accepts now c) c done in
-      let rest : fresh_from s (cond (accepts now (under B c)) (under B c ∷ map (under B) done) (map (under B) done)) (next now (under B c)) (map (under B) cs) ≡ map (under B) (fresh_from s more (next now c) cs) =
+      let rest : fresh_from s (cond (accepts now (under B c)) (under B c ∷ map (under B) done) (map (under B) done)) (next now (under B c))
+      (map (under B) cs) ≡ map (under B) (fresh_from s more (next now c) cs) =
       (λ i. fresh_from s (since i) (next_same now c i) (map (under B) cs)) ∙ fresh_by s more (next now c) cs in
       (λ i. cond (resend_same s done c i) (rest i) (under B c ∷ rest i)) ∙ left_same (is_resend s done c) c (fresh_from s more (next now c) cs)
 

@@ -1,8 +1,8 @@
 -- What waits of a short data PDU is the written form of one of its kind and reference.
-use Rattle.std.proofs.Common.{◌≡◌, ℕ, Bool, true, List, refl, ap, sym, ◌∙◌, arith, Option, Some, None, Result, Ok, Err}
+use Rattle.std.proofs.Common.{◌≡◌, ℕ, Bool, true, List, refl, ap, sym, ◌∙◌, Option, Some, None, Result, Ok, Err}
 use Rattle.std.specs.Prelude.{◌==◌}
-use Rattle.std.proofs.lemmas.Bool.Decides.{nat_tests}
 use mathlib.Core.Bool.{false≢true}
+use Rattle.base.proofs.Numbers.{same_test}
 use Rattle.sds_tl.specs.declared.fault.SdsFault.{SdsFault}
 use Rattle.sds_tl.specs.declared.pdu.DeliveryReportRequest.{DeliveryReportRequest}
 use Rattle.sds_tl.specs.declared.pdu.Head.{Head}
@@ -57,19 +57,16 @@ unless_ok (Some f) x y e = cc
 pub is_cleared : (pdu bits : List Bool) → clearing pdu ≡ Ok bits → bits ≡ cleared pdu
 is_cleared pdu bits e = unless_ok (fault pdu) (cleared pdu) bits e
 
-same : (n : ℕ) → (n == n) ≡ true
-same n = grind (arith, nat_tests)
-
 -- a PDU is of the kind and reference that its head says
 pub message_headed : (pdu : List Bool) (request : DeliveryReportRequest) (reference : ℕ) → heading pdu ≡ Ok (heads.Transfer request reference) → is_head_of Message reference (heading pdu) ≡ true
-message_headed pdu request reference is = ap (is_head_of Message reference) is ∙ same reference
+message_headed pdu request reference is = ap (is_head_of Message reference) is ∙ same_test reference
 
 pub report_headed : (pdu : List Bool) (acknowledge : Bool) (status reference : ℕ) → heading pdu ≡ Ok (heads.Report acknowledge status reference) → is_head_of Report reference (heading pdu) ≡ true
-report_headed pdu acknowledge status reference is = ap (is_head_of Report reference) is ∙ same reference
+report_headed pdu acknowledge status reference is = ap (is_head_of Report reference) is ∙ same_test reference
 
 referenced : (head : Result Head SdsFault) (reference : ℕ) → transfer_reference head ≡ Ok reference → is_head_of Message reference head ≡ true
 referenced (Err fault) reference e = cc
-referenced (Ok (heads.Transfer request r)) reference e = let n : r ≡ reference = cc in ap (λ k. r == k) (sym n) ∙ same r
+referenced (Ok (heads.Transfer request r)) reference e = let n : r ≡ reference = cc in ap (λ k. r == k) (sym n) ∙ same_test r
 referenced (Ok (heads.Report acknowledge status r)) reference e = cc
 referenced (Ok (heads.Ack status r)) reference e = cc
 

@@ -37,7 +37,8 @@ use Rattle.centre_core.specs.declared.reply.Reply.{Reply}
 use Rattle.centre_core.specs.declared.reply.Reply.TheVariants.{Accepted, Kept, Refused}
 use Rattle.centre_core.specs.declared.reply.Refusal.{Refusal}
 use Rattle.centre_core.specs.State.{State, LastAccepted, last_number, IsState, IsOfAccepted}
-use Rattle.centre_core.specs.Step.{step, step_new, step_after, step_body, step_made, step_mm, step_sds, step_group_sds, accepted, last_at, is_station, envelope, mail_changed, message_of, report_of, group_envelope, copies_of}
+use Rattle.centre_core.specs.Step.{step, step_new, step_after, step_body, step_made, step_mm, step_sds, step_group_sds, accepted, last_at, is_station}
+use Rattle.centre_core.specs.Step.{envelope, mail_changed, message_of, report_of, group_envelope, copies_of}
 use Rattle.centre_core.specs.History.{is_acceptance, accepts, next, names, made}
 use Rattle.centre_core.specs.Laws.{EmptyIsState, NextIsState, StepIsNext}
 use Rattle.centre_core.proofs.ReadingLaws.{moved, reading_moved}
@@ -50,11 +51,14 @@ one_more n None h = h
 one_more n (Some last) h = (h.0, omega (arith, h.1))
 
 module _ {A : Type 0} where
-  pub accepted_state : (s new : State) (c : Command A) (pdu : Option (List Bool)) (ends : Item → Bool) (makes : List Item) → s.count < last_number → IsEffect s new ends makes → IsState s → IsState (accepted new c pdu)
+  pub accepted_state : (s new : State) (c : Command A) (pdu : Option (List Bool)) (ends : Item → Bool) (makes : List Item) → s.count < last_number →
+      IsEffect s new ends makes → IsState s → IsState (accepted new c pdu)
   accepted_state s new c pdu ends makes left change h =
       let still = change.made h in
       let entries : All (IsOfAccepted (new.count + 1)) new.served =
-      subst (λ served. All (IsOfAccepted (new.count + 1)) served) (sym change.served) (subst (λ n. All (IsOfAccepted (n + 1)) s.served) (sym change.count) (All-weaker (IsOfAccepted s.count) (IsOfAccepted (s.count + 1)) (one_more s.count) s.served h.last)) in record {
+      subst (λ served. All (IsOfAccepted (new.count + 1)) served) (sym change.served)
+      (subst (λ n. All (IsOfAccepted (n + 1)) s.served) (sym change.count)
+      (All-weaker (IsOfAccepted s.count) (IsOfAccepted (s.count + 1)) (one_more s.count) s.served h.last)) in record {
         within = still.0;
         attachments = still.1;
         mail = record { in_order = subst (λ n. IsMail (n + 1) new.mail) (sym change.count) still.2.in_order; room = still.2.room };
@@ -85,39 +89,54 @@ empty_is_state limits = record {
 }
 
 -- a register that was just made
-pub new_state : (limits : Limits) (r : Registered) (groups : Attached) (mail : Mailed) (served : List (Option LastAccepted)) → r ≡ empty_registered limits → groups ≡ no_groups → mail ≡ empty_mailed limits → served ≡ replicate limits.stations None
+pub new_state : (limits : Limits) (r : Registered) (groups : Attached) (mail : Mailed) (served : List (Option LastAccepted)) →
+    r ≡ empty_registered limits → groups ≡ no_groups → mail ≡ empty_mailed limits → served ≡ replicate limits.stations None
     → IsState (record { registered = r; groups = groups; mail = mail; served = served; count = 0 })
 new_state limits r groups mail served e f g k = rw (e, f, g, k) (empty_is_state limits)
 
 -- the same of a register whose fields are the accepted state's
 module _ {A : Type 0} where
-  counted_state : (s new : State) (c : Command A) (ends : Item → Bool) (makes : List Item) (mail : Mailed) (served : List (Option LastAccepted)) (count : ℕ) → IsEffect s new ends makes → new ≡ mail_changed s mail → s.count < last_number
-      → served ≡ slice_set s.served (c.station - 1) (Some (record { sequence = c.sequence; number = s.count + 1; pdu = None })) → count ≡ s.count + 1 → IsState s → IsState (record { registered = s.registered; groups = s.groups; mail = mail; served = served; count = count })
+  counted_state : (s new : State) (c : Command A) (ends : Item → Bool) (makes : List Item) (mail : Mailed) (served : List (Option LastAccepted))
+      (count : ℕ) → IsEffect s new ends makes → new ≡ mail_changed s mail → s.count < last_number
+      → served ≡ slice_set s.served (c.station - 1) (Some (record { sequence = c.sequence; number = s.count + 1; pdu = None })) →
+      count ≡ s.count + 1 → IsState s →
+      IsState (record { registered = s.registered; groups = s.groups; mail = mail; served = served; count = count })
   counted_state s new c ends makes mail served count change is left last_accepted_is count_is h =
       rw (last_accepted_is, count_is) (accepted_state s (mail_changed s mail) c None ends makes left (subst (λ t. IsEffect s t ends makes) is change) h)
 
-  pub posted_state : (s : State) (c : Command A) (e : Envelope) (pdu : List Bool) (w : Item) (mail : Mailed) (served : List (Option LastAccepted)) (count : ℕ) → is_head_of Message e.reference (heading pdu) ≡ true → s.count < last_number
+  pub posted_state : (s : State) (c : Command A) (e : Envelope) (pdu : List Bool) (w : Item) (mail : Mailed) (served : List (Option LastAccepted))
+      (count : ℕ) → is_head_of Message e.reference (heading pdu) ≡ true → s.count < last_number
       → w ≡ message_of s c.moment e pdu → (post_refusal s.registered s.mail w ≡ None) × (mail ≡ posted s.mail w)
-      → served ≡ slice_set s.served (c.station - 1) (Some (record { sequence = c.sequence; number = s.count + 1; pdu = None })) → count ≡ s.count + 1 → IsState s → IsState (record { registered = s.registered; groups = s.groups; mail = mail; served = served; count = count })
+      → served ≡ slice_set s.served (c.station - 1) (Some (record { sequence = c.sequence; number = s.count + 1; pdu = None })) →
+      count ≡ s.count + 1 → IsState s →
+      IsState (record { registered = s.registered; groups = s.groups; mail = mail; served = served; count = count })
   posted_state s c e pdu w mail served count is left w_is done last_accepted_is count_is h =
       let m : Item = message_of s c.moment e pdu in
       counted_state s (mail_changed s (posted s.mail m)) c (λ _. false) (m ∷ []) mail served count (message_effect s c.moment e pdu is (ap (post_refusal s.registered s.mail) (sym w_is) ∙ done.0))
       (ap (mail_changed s) (sym (done.1 ∙ ap (posted s.mail) w_is))) left last_accepted_is count_is h
 
-  pub copies_state : (s : State) (c : Command A) (e : GroupEnvelope) (pdu : List Bool) (ws : List Item) (mail : Mailed) (served : List (Option LastAccepted)) (count : ℕ) → is_head_of Message e.reference (heading pdu) ≡ true → s.count < last_number
+  pub copies_state : (s : State) (c : Command A) (e : GroupEnvelope) (pdu : List Bool) (ws : List Item) (mail : Mailed)
+      (served : List (Option LastAccepted)) (count : ℕ) → is_head_of Message e.reference (heading pdu) ≡ true → s.count < last_number
       → ws ≡ copies_of s c.moment e pdu → (group_refusal s.registered s.mail e ws ≡ None) × (mail ≡ group_posted s.mail ws)
-      → served ≡ slice_set s.served (c.station - 1) (Some (record { sequence = c.sequence; number = s.count + 1; pdu = None })) → count ≡ s.count + 1 → IsState s → IsState (record { registered = s.registered; groups = s.groups; mail = mail; served = served; count = count })
+      → served ≡ slice_set s.served (c.station - 1) (Some (record { sequence = c.sequence; number = s.count + 1; pdu = None })) →
+      count ≡ s.count + 1 → IsState s →
+      IsState (record { registered = s.registered; groups = s.groups; mail = mail; served = served; count = count })
   copies_state s c e pdu ws mail served count is left ws_are done last_accepted_is count_is h =
       let copies : List Item = copies_of s c.moment e pdu in
-      counted_state s (mail_changed s (group_posted s.mail copies)) c (λ _. false) copies mail served count (copies_effect s c.moment e pdu is (ap (group_refusal s.registered s.mail e) (sym ws_are) ∙ done.0))
+      counted_state s (mail_changed s (group_posted s.mail copies)) c (λ _. false) copies mail served count
+      (copies_effect s c.moment e pdu is (ap (group_refusal s.registered s.mail e) (sym ws_are) ∙ done.0))
       (ap (mail_changed s) (sym (done.1 ∙ ap (group_posted s.mail) ws_are))) left last_accepted_is count_is h
 
-  pub reported_state : (s : State) (c : Command A) (e : Envelope) (status : ℕ) (pdu : List Bool) (w : Item) (mail : Mailed) (served : List (Option LastAccepted)) (count : ℕ) → is_head_of Report e.reference (heading pdu) ≡ true → s.count < last_number
+  pub reported_state : (s : State) (c : Command A) (e : Envelope) (status : ℕ) (pdu : List Bool) (w : Item) (mail : Mailed)
+      (served : List (Option LastAccepted)) (count : ℕ) → is_head_of Report e.reference (heading pdu) ≡ true → s.count < last_number
       → w ≡ report_of s c.moment e pdu → (report_refusal s.registered s.mail e status w ≡ None) × (mail ≡ reported s.mail e status w)
-      → served ≡ slice_set s.served (c.station - 1) (Some (record { sequence = c.sequence; number = s.count + 1; pdu = None })) → count ≡ s.count + 1 → IsState s → IsState (record { registered = s.registered; groups = s.groups; mail = mail; served = served; count = count })
+      → served ≡ slice_set s.served (c.station - 1) (Some (record { sequence = c.sequence; number = s.count + 1; pdu = None })) →
+      count ≡ s.count + 1 → IsState s →
+      IsState (record { registered = s.registered; groups = s.groups; mail = mail; served = served; count = count })
   reported_state s c e status pdu w mail served count is left w_is done last_accepted_is count_is h =
       let m : Item = report_of s c.moment e pdu in
-      counted_state s (mail_changed s (reported s.mail e status m)) c (is_reported e status) [] mail served count (report_effect s c.moment e status pdu is (ap (report_refusal s.registered s.mail e status) (sym w_is) ∙ done.0))
+      counted_state s (mail_changed s (reported s.mail e status m)) c (is_reported e status) [] mail served count
+      (report_effect s c.moment e status pdu is (ap (report_refusal s.registered s.mail e status) (sym w_is) ∙ done.0))
       (ap (mail_changed s) (sym (done.1 ∙ ap (reported s.mail e status) w_is))) left last_accepted_is count_is h
 
 -- what a step says wherever its reply is kept: the state, and whether it accepts
@@ -134,7 +153,8 @@ module _ {B C : Type 0} where
   same_if false x y v w h k = k
 
 module _ {A : Type 0} (B C : Type 0) where
-  same_made : {F : Type 0} (s : State) (c : Command A) (made : State) (pdu : Option (List Bool)) (b : F → Refusal B) (d : F → Refusal C) (f : Option F) → Same (step_made s c made pdu (option_map b f)) (step_made s c made pdu (option_map d f))
+  same_made : {F : Type 0} (s : State) (c : Command A) (made : State) (pdu : Option (List Bool)) (b : F → Refusal B) (d : F → Refusal C)
+      (f : Option F) → Same (step_made s c made pdu (option_map b f)) (step_made s c made pdu (option_map d f))
   same_made s c made pdu b d (Some fault) = refl
   same_made s c made pdu b d None = refl
 
@@ -144,14 +164,17 @@ module _ {A : Type 0} (B C : Type 0) where
   same_mm s c itsi area (Ok up.Detach) = same_made s c _ _ _ _ (detach_refusal s.registered itsi)
   same_mm s c itsi area (Ok (up.Groups mode items)) = same_made s c _ _ _ _ (apply_refusal s.registered s.groups itsi mode items)
 
-  same_sds : (s : State) (c : Command A) (source destination : ℕ) (pdu : List Bool) (head : Result Head SdsFault) → Same {B = B} {C = C} (step_sds s c source destination pdu head) (step_sds s c source destination pdu head)
+  same_sds : (s : State) (c : Command A) (source destination : ℕ) (pdu : List Bool) (head : Result Head SdsFault) →
+      Same {B = B} {C = C} (step_sds s c source destination pdu head) (step_sds s c source destination pdu head)
   same_sds s c source destination pdu (Err fault) = refl
-  same_sds s c source destination pdu (Ok (heads.Transfer request reference)) = same_made s c _ _ _ _ (post_refusal s.registered s.mail (message_of s c.moment (envelope source destination reference) pdu))
+  same_sds s c source destination pdu (Ok (heads.Transfer request reference)) =
+      same_made s c _ _ _ _ (post_refusal s.registered s.mail (message_of s c.moment (envelope source destination reference) pdu))
   same_sds s c source destination pdu (Ok (heads.Report acknowledge status reference)) =
       let e = envelope source destination reference in same_made s c _ _ _ _ (report_refusal s.registered s.mail e status (report_of s c.moment e pdu))
   same_sds s c source destination pdu (Ok (heads.Ack status reference)) = same_made s c _ _ _ _ (ack_refusal s.registered s.mail (envelope source destination reference))
 
-  same_group : (s : State) (c : Command A) (source group : ℕ) (pdu : List Bool) (read : Result ℕ SdsFault) → Same {B = B} {C = C} (step_group_sds s c source group pdu read) (step_group_sds s c source group pdu read)
+  same_group : (s : State) (c : Command A) (source group : ℕ) (pdu : List Bool) (read : Result ℕ SdsFault) →
+      Same {B = B} {C = C} (step_group_sds s c source group pdu read) (step_group_sds s c source group pdu read)
   same_group s c source group pdu (Err fault) = refl
   same_group s c source group pdu (Ok reference) =
       let e = group_envelope source group reference in same_made s c _ _ _ _ (group_refusal s.registered s.mail e (copies_of s c.moment e pdu))

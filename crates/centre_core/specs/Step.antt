@@ -1,6 +1,6 @@
 -- The register as a machine: the state after a command, and the reply.
 use Rattle.std.specs.Prelude.{◌<◌, ◌≤◌, zero, suc, ◌+◌, ◌-◌, ◌==◌, nat_lt, nat_le, Bool, false, ◌&&◌}
-use Rattle.std.specs.Prelude.{List, map, slice_index_or, slice_set, Option, Some, None, Result, Ok, Err, if◌then◌else◌}
+use Rattle.std.specs.Prelude.{List, map, slice_index_or, slice_set, Option, Some, None, Result, Ok, Err, if◌then◌else◌, IfSome}
 use Rattle.std.specs.Option.{option_map}
 use Rattle.identity.specs.Numbers.{Itsi, Gtsi}
 use Rattle.identity.specs.Path.{Path}
@@ -159,6 +159,10 @@ module _ {A : Type 0} where
   -- the command comes from a station of the register
   abbrev pub IsOfStation : State → Command A → Type 0
   IsOfStation s c = (0 < c.station) × (c.station ≤ s.registered.limits.stations)
+
+  -- its sequence is new to the station that it comes from
+  abbrev pub IsNew : State → Command A → Type 0
+  IsNew s c = IsOfStation s c × IfSome (last_at s c.station) (λ last. last.sequence < c.sequence)
 
   -- the command comes from a station, and there is a number left for it
   abbrev pub CanBeAccepted : State → Command A → Type 0

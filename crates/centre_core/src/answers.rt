@@ -1,6 +1,6 @@
 //! The PDUs that answer a radio, and the refusals of its PDUs.
-ghost use Rattle.std.specs.Prelude.{◌≡◌, ◌≢◌, IfOk, OnErr, None};
-ghost use Rattle.mm_pdus.specs.Downlink.{canon_down, accept_text};
+ghost use Rattle.std.specs.Prelude.{◌≡◌, ◌≢◌, IfOk, OnErr, IsOk, IsTrue};
+ghost use Rattle.mm_pdus.specs.Downlink.{canon_down, is_acknowledgement, accept_text};
 ghost use Rattle.registration.specs.declared.fault.RegFault.TheVariants as registration;
 ghost use Rattle.centre_core.specs.declared.reply.Refusal.TheVariants.{Registration};
 ghost use Rattle.centre_core.specs.Step.{cause_of, acknowledge_pdu, location_refusal};
@@ -14,23 +14,25 @@ use mm_pdus::{
 use registration::{RegFault, Registry};
 use std::alloc::{AllocError, Allocator};
 
-/// The D-LOCATION UPDATE ACCEPT of an update of this type.
+/// The D-LOCATION UPDATE ACCEPT of an update of this type. It takes no memory.
+#[tactic(auto, using(crate::proofs::ShortPdus::sure))]
 pub(crate) fn accept_pdu<A: Allocator>(alloc: A, update: AcceptType) -> Result<Bits<A>, AllocError>
-    ensures { IfOk result (λ pdu. pdu ≡ accept_text update) }
+    ensures ok { IfOk result (λ pdu. pdu ≡ accept_text update) }
+    ensures never { IsOk result }
 {
     let pdu: MmDown<A> = MmDown::Accept { update };
     written(alloc, &pdu)
 }
 
-/// The refusal of a location update, with a D-LOCATION UPDATE REJECT where there is a cause. Only that PDU needs
-/// memory. Out of memory is no refusal.
+/// The refusal of a location update, with a D-LOCATION UPDATE REJECT where there is a cause. It takes no memory. Out of
+/// memory is no refusal.
 pub(crate) fn location_refusal<A: Allocator>(
     alloc: A,
     update: LocationUpdateType,
     fault: RegFault,
 ) -> Result<Refusal<A>, AllocError>
     ensures ok { IfOk result (λ refusal. (fault ≢ registration.NoMemory) × (refusal ≡ location_refusal update fault)) }
-    ensures memory { OnErr result (cause_of fault ≡ None → fault ≡ registration.NoMemory) }
+    ensures memory { OnErr result (fault ≡ registration.NoMemory) }
 {
     let Some(cause) = cause_of(fault) else {
         return registration_refusal(fault);
@@ -83,7 +85,8 @@ pub(crate) fn acknowledge_pdu<A: Allocator, R: Allocator + Clone, B: Allocator, 
 }
 
 fn written<A: Allocator, B: Allocator>(alloc: A, pdu: &MmDown<B>) -> Result<Bits<A>, AllocError>
-    ensures { IfOk result (λ bits. bits ≡ canon_down pdu.now) }
+    ensures ok { IfOk result (λ bits. bits ≡ canon_down pdu.now) }
+    ensures memory { OnErr result (IsTrue (is_acknowledgement pdu.now)) }
 {
     match write_down(alloc, pdu) {
         Ok(bits) => Ok(bits),

@@ -1,7 +1,7 @@
 //! What is kept of each station.
-ghost use Rattle.std.specs.Prelude.{◌≡◌, ◌<◌, ◌≤◌, ◌+◌, ◌-◌, IfOk, OnErr, IsTrue, replicate, slice_set, vec_len, None, Some};
-ghost use Rattle.std.specs.Option.{is_some};
+ghost use Rattle.std.specs.Prelude.{◌≡◌, ◌<◌, ◌≤◌, ◌+◌, ◌-◌, IfOk, OnErr, IsTrue, length, replicate, slice_set, vec_len, None, Some};
 ghost use Rattle.centre_core.specs.State.{last_number};
+ghost use Rattle.centre_core.specs.Memory.{is_long};
 ghost use Rattle.centre_core.specs.declared.reply.Reply.TheVariants.{Kept};
 
 use crate::{Command, Reply, Sequence};
@@ -31,10 +31,10 @@ impl<A: Allocator> Model for LastAccepted<A> {
 }
 
 impl<A: Allocator> LastAccepted<A> {
-    /// The reply to a resend of that command. Only its PDU takes memory.
+    /// The reply to a resend of that command. Only a PDU of more than 64 bits takes memory.
     pub(crate) fn kept_reply<B: Allocator>(&self, alloc: B) -> Result<Reply<B>, AllocError>
         ensures ok { IfOk result (λ reply. reply ≡ Kept self.now.number self.now.pdu) }
-        ensures memory { OnErr result (IsTrue (is_some self.now.pdu)) }
+        ensures memory { OnErr result (IsTrue (is_long self.now.pdu)) }
     {
         Ok(Reply::Kept {
             number: self.number,
@@ -116,13 +116,14 @@ fn copied_entry<A: Allocator, B: Allocator>(
     }
 }
 
-/// A copy of a PDU, if there is one.
+/// A copy of a PDU, if there is one. Only more than 64 bits take memory.
+#[tactic(auto, using(crate::proofs::ShortPdus::long_copy))]
 pub(crate) fn copy_of<A: Allocator, B: Allocator>(
     alloc: B,
     pdu: &Option<Bits<A>>,
 ) -> Result<Option<Bits<B>>, AllocError>
     ensures ok { IfOk result (λ copy. copy ≡ pdu.now) }
-    ensures memory { OnErr result (IsTrue (is_some pdu.now)) }
+    ensures memory { OnErr result (IsTrue (is_long pdu.now)) }
 {
     match pdu {
         None => Ok(None),
@@ -130,12 +131,13 @@ pub(crate) fn copy_of<A: Allocator, B: Allocator>(
     }
 }
 
-/// A copy of bits.
+/// A copy of bits. Only more than 64 bits take memory.
 pub(crate) fn bits_copy<A: Allocator, B: Allocator>(
     alloc: B,
     bits: &Bits<A>,
 ) -> Result<Bits<B>, AllocError>
-    ensures { IfOk result (λ copy. copy ≡ bits.now) }
+    ensures ok { IfOk result (λ copy. copy ≡ bits.now) }
+    ensures memory { OnErr result (64 < length bits.now) }
 {
     match bits.try_copy(alloc) {
         Ok(copy) => Ok(copy),

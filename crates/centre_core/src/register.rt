@@ -10,9 +10,9 @@ ghost use Rattle.centre_core.specs.Laws.{MessagesStay};
 
 use crate::tables::Tables;
 use crate::{Command, LastAccepted, Parts, Query, QueryAnswer, Reply};
+use base::TryCopy;
 use group_attach::Groups;
 use mailbox::Mail;
-use prefix_tree::TryCopy;
 use registration::{Limits, Registry};
 use std::alloc::{AllocError, Allocator};
 use std::marker::Model;
@@ -121,7 +121,9 @@ impl<A: Allocator + Clone> Register<A> {
     {
         self.tables.query(alloc, query)
     }
+}
 
+impl<A: Allocator + Copy> Register<A> {
     /// The reply to a command, allocated in `alloc`. When memory runs out, nothing is changed. Only a command that
     /// needs memory can fail so.
     pub fn apply<B: Allocator, C: Allocator + Copy>(

@@ -3,17 +3,16 @@
 mod group_messages;
 mod messages;
 
-ghost use Rattle.std.specs.Prelude.{◌≡◌, ◌<◌, ◌≤◌, ◌+◌, IfErr, IfOk, OnErr, OnOk, IsTrue, IsSome, None, unwrap_or};
+ghost use Rattle.std.specs.Prelude.{◌≡◌, ◌<◌, ◌≤◌, ◌+◌, IfErr, IfOk, OnErr, OnOk, IsOk, IfSome, IsTrue, IsSome, None, unwrap_or};
 ghost use Rattle.std.specs.Option.{is_none};
-ghost use Rattle.mm_pdus.specs.Values.{accept_of};
 ghost use Rattle.mm_pdus.specs.UplinkReading.{reading_up};
-ghost use Rattle.registration.specs.Registered.{locate_refusal, room_refusal};
+ghost use Rattle.registration.specs.Registered.{radio_of, room_refusal};
 ghost use Rattle.registration.specs.declared.fault.RegFault.TheVariants.{NoMemory};
 ghost use Rattle.group_attach.specs.Attached.{groups_of};
 ghost use Rattle.group_attach.specs.Applied.{apply_refusal};
 ghost use Rattle.centre_core.specs.State.{empty, IsState};
 ghost use Rattle.centre_core.specs.Step.{step, step_new, step_mm, step_rule, step_clear, step_locate, step_detach, step_groups};
-ghost use Rattle.centre_core.specs.Step.{accept_pdu, acknowledge_pdu, accepted, radio_located, IsOfStation, CanBeAccepted};
+ghost use Rattle.centre_core.specs.Step.{accept_pdu, acknowledge_pdu, accepted, radio_located, IsOfStation, IsNew, CanBeAccepted};
 ghost use Rattle.centre_core.specs.declared.command.Body.TheVariants.{Mm};
 ghost use Rattle.centre_core.specs.Memory.{needs_rule, needs_update, needs_body, needs_new, needs_memory};
 ghost use Rattle.centre_core.specs.Queries.{AsksForList, present_members, answer_to};
@@ -23,11 +22,11 @@ ghost use Rattle.centre_core.specs.Laws.{MessagesStay};
 use crate::answers::{accept_pdu, acknowledge_pdu, location_refusal, registration_refusal};
 use crate::last_accepted::{LastAccepted, bits_copy, copied, count_accepted, none_accepted};
 use crate::{Attachments, Body, Command, Parts, Query, QueryAnswer, Refusal, Reply};
+use base::TryCopy;
 use group_attach::{Attachment, Groups};
 use identity::{Bits, Gtsi, Itsi, Prefix};
 use mailbox::Mail;
 use mm_pdus::{GroupItems, GroupMode, GroupUp, LocationUpdateType, MmFault, MmUp, read_up};
-use prefix_tree::TryCopy;
 use registration::{Limits, LocationArea, RegFault, Registry, Rule, Station};
 use std::alloc::{AllocError, Allocator};
 use std::marker::Model;
@@ -196,7 +195,10 @@ impl<A: Allocator + Clone> Tables<A> {
         members.retain(|member| self.registry.is_present(member.itsi));
         Ok(members)
     }
+}
 
+// Copying the allocator can't fail, as cloning could.
+impl<A: Allocator + Copy> Tables<A> {
     pub(crate) fn apply<B: Allocator, C: Allocator + Copy>(
         &mut self,
         alloc: C,
@@ -211,7 +213,7 @@ impl<A: Allocator + Clone> Tables<A> {
         self.step(alloc, command)
     }
 
-    #[tactic(auto, unfolding(crate::specs::Step::step, crate::specs::Memory::needs_memory))]
+    #[tactic(auto, using(crate::proofs::StepLaws::new_step, crate::proofs::StepLaws::new_memory))]
     fn step<B: Allocator, C: Allocator + Copy>(
         &mut self,
         alloc: C,
@@ -221,19 +223,8 @@ impl<A: Allocator + Clone> Tables<A> {
         ensures err { OnErr result (self.new ≡ self.old) }
         ensures memory { OnErr result (IsTrue (needs_memory self.old command.now)) }
     {
-        let station = command.station.number();
-        if station == 0 || u32::from(station) > self.registry.limits().stations {
-            return Ok(Reply::Refused(Refusal::UnknownStation));
-        }
-        if let Some(last) = &self.served[usize::from(station) - 1] {
-            if command.sequence.number() < last.sequence.number() {
-                return Ok(Reply::Refused(Refusal::OldSequence {
-                    last: last.sequence,
-                }));
-            }
-            if command.sequence == last.sequence {
-                return last.kept_reply(alloc);
-            }
+        if let Some(reply) = self.settled(alloc, command)? {
+            return Ok(reply);
         }
         self.apply_new(alloc, command)
     }
@@ -270,6 +261,104 @@ impl<A: Allocator + Clone> Tables<A> {
         }
     }
 
+    fn mobility<B: Allocator, C: Allocator + Copy>(
+        &mut self,
+        alloc: C,
+        command: &Command<B>,
+        itsi: Itsi,
+        area: LocationArea,
+        pdu: &Bits<B>,
+    ) -> Result<Reply<C>, AllocError>
+        requires { CanBeAccepted self.old command.now }
+        ensures ok { IfOk result (λ reply. (self.new, reply) ≡ step_mm self.old command.now itsi area (reading_up pdu.now)) }
+        ensures err { OnErr result (self.new ≡ self.old) }
+        ensures memory { OnErr result (IsTrue (needs_body {A = B} self.old command.now.moment (Mm itsi area pdu.now))) }
+    {
+        match read_up(alloc, pdu) {
+            Err(MmFault::NoMemory) => Err(AllocError),
+            Err(fault) => Ok(Reply::Refused(Refusal::Pdu(fault))),
+            Ok(MmUp::Demand { update }) => self.locate(alloc, command, itsi, area, update),
+            Ok(MmUp::Detach) => Ok(self.detach(command, itsi)),
+            Ok(MmUp::Groups { mode, items }) => {
+                self.change_groups(alloc, command, itsi, mode, &items)
+            }
+        }
+    }
+
+    #[tactic(auto, using(crate::proofs::ShortPdus::service_never, crate::proofs::ShortPdus::new_needs))]
+    fn locate<B: Allocator, C: Allocator + Copy>(
+        &mut self,
+        alloc: C,
+        command: &Command<B>,
+        itsi: Itsi,
+        area: LocationArea,
+        update: LocationUpdateType,
+    ) -> Result<Reply<C>, AllocError>
+        requires { CanBeAccepted self.old command.now }
+        ensures ok { IfOk result (λ reply. (self.new, reply) ≡ step_locate self.old command.now itsi area update) }
+        ensures err { OnErr result (self.new ≡ self.old) }
+        ensures memory { OnErr result (IsTrue (needs_update self.old itsi area update)) }
+    {
+        if let Some(fault) = self.registry.service_refusal(itsi, area, update) {
+            return Ok(Reply::Refused(location_refusal(alloc, update, fault)?));
+        }
+        let (kept, pdu) = self.accept_pdus(alloc, update)?;
+        if let Err(fault) = self.place(itsi, command.station, area, update) {
+            return Ok(Reply::Refused(location_refusal(alloc, update, fault)?));
+        }
+        let number = self.accept(command, kept);
+        Ok(Reply::Accepted { number, pdu })
+    }
+
+    // The PDU that accepts a location update, twice: one copy to keep and one to answer. None for a type that is
+    // never accepted. It takes no memory, as the PDU is short.
+    #[tactic(auto, using(crate::proofs::ShortPdus::accept_short))]
+    fn accept_pdus<C: Allocator>(
+        &self,
+        alloc: C,
+        update: LocationUpdateType,
+    ) -> Result<(Option<Bits<A>>, Option<Bits<C>>), AllocError>
+        ensures ok { IfOk result (λ pdus. pdus ≡ (accept_pdu update, accept_pdu update)) }
+        ensures never { IsOk result }
+    {
+        let Some(accepted) = update.accept_type() else {
+            return Ok((None, None));
+        };
+        let kept = accept_pdu(self.alloc, accepted)?;
+        let pdu = bits_copy(alloc, &kept)?;
+        Ok((Some(kept), Some(pdu)))
+    }
+}
+
+impl<A: Allocator + Clone> Tables<A> {
+    // The reply to a command that is not new to its station. None for one that is.
+    #[tactic(auto, unfolding(crate::specs::Step::step, crate::specs::Memory::needs_memory))]
+    fn settled<B: Allocator, C: Allocator + Copy>(
+        &self,
+        alloc: C,
+        command: &Command<B>,
+    ) -> Result<Option<Reply<C>>, AllocError>
+        ensures ok { IfOk result (λ found. IfSome found (λ reply. (self.now, reply) ≡ step self.now command.now)) }
+        ensures new { IfOk result (λ found. found ≡ None → IsNew self.now command.now) }
+        ensures memory { OnErr result (IsTrue (needs_memory self.now command.now)) }
+    {
+        let station = command.station.number();
+        if station == 0 || u32::from(station) > self.registry.limits().stations {
+            return Ok(Some(Reply::Refused(Refusal::UnknownStation)));
+        }
+        if let Some(last) = &self.served[usize::from(station) - 1] {
+            if command.sequence.number() < last.sequence.number() {
+                return Ok(Some(Reply::Refused(Refusal::OldSequence {
+                    last: last.sequence,
+                })));
+            }
+            if command.sequence == last.sequence {
+                return Ok(Some(last.kept_reply(alloc)?));
+            }
+        }
+        Ok(None)
+    }
+
     fn set_rule<B: Allocator, C: Allocator>(
         &mut self,
         command: &Command<B>,
@@ -302,54 +391,6 @@ impl<A: Allocator + Clone> Tables<A> {
         Reply::Accepted { number, pdu: None }
     }
 
-    fn mobility<B: Allocator, C: Allocator + Copy>(
-        &mut self,
-        alloc: C,
-        command: &Command<B>,
-        itsi: Itsi,
-        area: LocationArea,
-        pdu: &Bits<B>,
-    ) -> Result<Reply<C>, AllocError>
-        requires { CanBeAccepted self.old command.now }
-        ensures ok { IfOk result (λ reply. (self.new, reply) ≡ step_mm self.old command.now itsi area (reading_up pdu.now)) }
-        ensures err { OnErr result (self.new ≡ self.old) }
-        ensures memory { OnErr result (IsTrue (needs_body {A = B} self.old command.now.moment (Mm itsi area pdu.now))) }
-    {
-        match read_up(alloc, pdu) {
-            Err(MmFault::NoMemory) => Err(AllocError),
-            Err(fault) => Ok(Reply::Refused(Refusal::Pdu(fault))),
-            Ok(MmUp::Demand { update }) => self.locate(alloc, command, itsi, area, update),
-            Ok(MmUp::Detach) => Ok(self.detach(command, itsi)),
-            Ok(MmUp::Groups { mode, items }) => {
-                self.change_groups(alloc, command, itsi, mode, &items)
-            }
-        }
-    }
-
-    fn locate<B: Allocator, C: Allocator + Copy>(
-        &mut self,
-        alloc: C,
-        command: &Command<B>,
-        itsi: Itsi,
-        area: LocationArea,
-        update: LocationUpdateType,
-    ) -> Result<Reply<C>, AllocError>
-        requires { CanBeAccepted self.old command.now }
-        ensures ok { IfOk result (λ reply. (self.new, reply) ≡ step_locate self.old command.now itsi area update) }
-        ensures err { OnErr result (self.new ≡ self.old) }
-        ensures memory { OnErr result (IsTrue (needs_update (locate_refusal self.old.registered itsi area update))) }
-    {
-        if let Some(fault) = self.registry.service_refusal(itsi, area, update) {
-            return Ok(Reply::Refused(location_refusal(alloc, update, fault)?));
-        }
-        let (kept, pdu) = self.accept_pdus(alloc, update)?;
-        if let Err(fault) = self.place(itsi, command.station, area, update) {
-            return Ok(Reply::Refused(location_refusal(alloc, update, fault)?));
-        }
-        let number = self.accept(command, kept);
-        Ok(Reply::Accepted { number, pdu })
-    }
-
     // Locates a radio that a rule serves, where there is room for it. The update ends attachments, of which a new radio
     // has none.
     fn place(
@@ -361,30 +402,13 @@ impl<A: Allocator + Clone> Tables<A> {
     ) -> Result<(), RegFault>
         ensures ok { OnOk result ((room_refusal self.old.registered itsi ≡ None) × (self.new ≡ radio_located self.old itsi station area update)) }
         ensures err { IfErr result (λ e. (e ≡ unwrap_or (room_refusal self.old.registered itsi) NoMemory) × (self.new ≡ self.old)) }
+        ensures moves { IsSome (radio_of self.old.registered itsi) → IsOk result }
     {
         let known = self.registry.place(itsi, station, area)?;
         if known {
             self.groups.on_update(itsi, update);
         }
         Ok(())
-    }
-
-    // The PDU that accepts a location update, twice: one copy to keep and one to answer. None for a type that is
-    // never accepted.
-    fn accept_pdus<C: Allocator>(
-        &self,
-        alloc: C,
-        update: LocationUpdateType,
-    ) -> Result<(Option<Bits<A>>, Option<Bits<C>>), AllocError>
-        ensures ok { IfOk result (λ pdus. pdus ≡ (accept_pdu update, accept_pdu update)) }
-        ensures memory { OnErr result (IsSome (accept_of update)) }
-    {
-        let Some(accepted) = update.accept_type() else {
-            return Ok((None, None));
-        };
-        let kept = accept_pdu(self.alloc.clone()?, accepted)?;
-        let pdu = bits_copy(alloc, &kept)?;
-        Ok((Some(kept), Some(pdu)))
     }
 
     fn change_groups<B: Allocator, C: Allocator + Copy>(

@@ -15,12 +15,16 @@ use Rattle.checkpoint.proofs.Apart.{lies}
 use Rattle.checkpoint.proofs.Spared.{below_same, sectors_same}
 
 module _ {A : Type 0} (layout : Layout) (s : Side) (form : Form) (base : Base) where
-  pub is_settled : (disk : View) (held : Held A) → InEach disk (IsOnSide layout s form base held) → held.1 < half_end layout s → IsSettled disk (record { first = half_at layout s; end = half_end layout s; next = held.1; form = form; count = counted base.1.count held.0 }) base.1.count held.0
+  pub is_settled : (disk : View) (held : Held A) → InEach disk (IsOnSide layout s form base held) → held.1 < half_end layout s →
+      IsSettled disk (record { first = half_at layout s; end = half_end layout s; next = held.1; form = form; count = counted base.1.count held.0 })
+      base.1.count held.0
   is_settled disk held each gate =
       let some = layout.in_range.fewest in
       record { begins = omega (arith, some); within = gate; counts = refl; half = λ image is. (each image is).half }
 
-  pub on_side_with : (held more : Held A) (was image : List (List ℕ)) → IsOnSide layout s form base held was → IsTorn (half_at layout s) layout.journal was image → IsInHalf layout s form base more image → more.1 < half_end layout s → IsOnSide layout s form base more image
+  pub on_side_with : (held more : Held A) (was image : List (List ℕ)) → IsOnSide layout s form base held was →
+      IsTorn (half_at layout s) layout.journal was image → IsInHalf layout s form base more image → more.1 < half_end layout s →
+      IsOnSide layout s form base more image
   on_side_with held more was image on_side torn half gate =
       let places = lies layout s in
       let others = lies layout (other_of s) in
@@ -29,7 +33,9 @@ module _ {A : Type 0} (layout : Layout) (s : Side) (form : Form) (base : Base) w
         room = rw torn.count on_side.room;
         label = ap (λ (bytes : List ℕ). take label_size bytes) (before label_at (omega (arith, places.root, places.slot))) ∙ on_side.label;
         root = ap (λ (bytes : List ℕ). slice_index bytes 0) (before (root_at s) (omega (arith, places.root, places.slot))) ∙ on_side.root;
-        below = below_same layout (other_of s) base.0 was image (before (root_at (other_of s)) (omega (arith, others.root, others.slots, places.halves))) (before (slot_at layout (other_of s)) (omega (arith, others.some, others.slots, places.halves))) on_side.below;
+        below = below_same layout (other_of s) base.0 was image
+            (before (root_at (other_of s)) (omega (arith, others.root, others.slots, places.halves)))
+            (before (slot_at layout (other_of s)) (omega (arith, others.some, others.slots, places.halves))) on_side.below;
         slot = ap (slot_of layout.limits) (sectors_same was image (slot_at layout s) (slot_size layout) (λ k low high. before k (omega (arith, high, places.slot)))) ∙ on_side.slot;
         form_is = ap stated_form (before (slot_at layout s) (omega (arith, places.slot, places.some))) ∙ on_side.form_is;
         half = half;

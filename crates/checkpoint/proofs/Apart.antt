@@ -46,8 +46,30 @@ pub record Lies (layout : Layout) (s : Side) : Type 0 where
   pub short : disk_size layout < 2 ^ 20
 
 pub lies : (layout : Layout) (s : Side) → Lies layout s
-lies layout side.A = let limits = layout.limits.in_range in let journal = layout.in_range in record { root = omega arith; root_in = omega arith; slot = omega arith; slots = omega arith; halves = omega arith; half = omega arith; some = omega arith; short = omega (arith, limits.most_rules, limits.most_radios, limits.most_mail, limits.most_stations, journal.most) }
-lies layout side.B = let limits = layout.limits.in_range in let journal = layout.in_range in record { root = omega arith; root_in = omega arith; slot = omega arith; slots = omega arith; halves = omega arith; half = omega arith; some = omega arith; short = omega (arith, limits.most_rules, limits.most_radios, limits.most_mail, limits.most_stations, journal.most) }
+lies layout side.A = let limits = layout.limits.in_range in let journal = layout.in_range in
+    record {
+      root = omega arith;
+      root_in = omega arith;
+      slot = omega arith;
+      slots = omega arith;
+      halves = omega arith;
+      half = omega arith;
+      some =
+          omega arith;
+      short = omega (arith, limits.most_rules, limits.most_radios, limits.most_mail, limits.most_stations, journal.most);
+    }
+lies layout side.B = let limits = layout.limits.in_range in let journal = layout.in_range in
+    record {
+      root = omega arith;
+      root_in = omega arith;
+      slot = omega arith;
+      slots = omega arith;
+      halves = omega arith;
+      half = omega arith;
+      some =
+          omega arith;
+      short = omega (arith, limits.most_rules, limits.most_radios, limits.most_mail, limits.most_stations, journal.most);
+    }
 
 pub root_inside : (layout : Layout) (s : Side) (sectors : ℕ) → disk_size layout ≤ sectors → root_at s < sectors
 root_inside layout s sectors room = let places = lies layout s in omega (arith, places.root_in, room)

@@ -1,6 +1,5 @@
 -- The calls that were made.
 use Rattle.std.proofs.Common.{◌≡◌, eqb, Bool, true, false, List, [], ◌∷◌, ◌++◌, slice_index, Result, refl, sym, ap, ◌∙◌, append_assoc, arith}
-use Rattle.std.proofs.lemmas.List.{append-nil}
 use Rattle.std.proofs.lemmas.Bool.Decides.{nat_tests}
 use Rattle.sector_disk.specs.Disk.{View, IsCalled, sector}
 use Rattle.sector_disk.specs.Run.{HasMade}
@@ -8,7 +7,7 @@ use Rattle.sector_disk.specs.declared.disk.DiskError.{DiskError}
 use Rattle.sector_disk.specs.declared.record.Call.{Call}
 use Rattle.sector_disk.specs.declared.record.Call.TheVariants.{Read, Sync, Write}
 use Rattle.sector_disk.proofs.Made.{all_made, made_of_more, made_on}
-use Rattle.gated_journal.specs.Half.{IsClosed, IsOpen}
+use Rattle.gated_journal.specs.Half.{IsOpen}
 use Rattle.gated_journal.specs.Calls.{closed_gate}
 use Rattle.checkpoint.specs.declared.side.Side.{Side}
 use Rattle.checkpoint.specs.Layout.{root_at}
@@ -22,18 +21,6 @@ module _ (side : Side) (old : View) where
 
   where_open : IsOpen (sector old.reads (root_at side)) → root_calls side old.reads ≡ read_calls ++ Write (root_at side) closed_gate ∷ []
   where_open is = let b : eqb (slice_index (sector old.reads (root_at side)) 0) 1 ≡ true = grind (arith, nat_tests) in rw b refl
-
-  where_closed : IsClosed (sector old.reads (root_at side)) → root_calls side old.reads ≡ read_calls
-  where_closed is = let b : eqb (slice_index (sector old.reads (root_at side)) 0) 1 ≡ false = grind (arith, nat_tests) in rw b refl
-
-  pub calls_in_read : (new : View) (result : Result Unit DiskError) → IsCalled old new (Read (root_at side)) result → HasMade old new (root_calls side old.reads)
-  calls_in_read new result called = made_on old old new [] _ (Read (root_at side)) result (sym (append-nil old.calls)) called
-
-  pub calls_at_closed : (new : View) → IsClosed (sector old.reads (root_at side)) → new.calls ≡ old.calls ++ read_calls → new.calls ≡ old.calls ++ root_calls side old.reads
-  calls_at_closed new closed is = rw (where_closed closed) is
-
-  pub made_at_closed : (new : View) → IsClosed (sector old.reads (root_at side)) → new.calls ≡ old.calls ++ read_calls → HasMade old new (root_calls side old.reads)
-  made_at_closed new closed is = rw (where_closed closed) (record { made = read_calls; left = []; prefix = refl; now = is })
 
   module _ (mid : View) (opened : IsOpen (sector old.reads (root_at side))) (were : mid.calls ≡ old.calls ++ read_calls) where
     pub calls_in_root : (new : View) (result : Result Unit DiskError) → IsCalled mid new (Write (root_at side) closed_gate) result → HasMade old new (root_calls side old.reads)
@@ -52,14 +39,8 @@ module _ (side : Side) (old : View) where
   abbrev pub MakesRoot : View → Type 0
   MakesRoot new = (was_open : Bool) × (new.calls ≡ old.calls ++ root_calls_by side was_open)
 
-  pub root_unread : (new : View) (result : Result Unit DiskError) → IsCalled old new (Read (root_at side)) result → MayMakeRoot new
-  root_unread new result called = (false, made_on old old new [] [] (Read (root_at side)) result (sym (append-nil old.calls)) called)
-
   pub root_left : (new : View) → new.calls ≡ old.calls ++ Read (root_at side) ∷ [] → MakesRoot new
   root_left new is = (false, is)
-
-  pub root_left_made : (new : View) → new.calls ≡ old.calls ++ Read (root_at side) ∷ [] → MayMakeRoot new
-  root_left_made new is = (false, record { made = Read (root_at side) ∷ []; left = []; prefix = refl; now = is })
 
   module _ (mid : View) (were : mid.calls ≡ old.calls ++ Read (root_at side) ∷ []) where
     pub root_written : (new : View) (result : Result Unit DiskError) → IsCalled mid new (Write (root_at side) closed_gate) result → MayMakeRoot new

@@ -26,17 +26,18 @@ module _ {A : Type 0} (layout : Layout) (s : Side) (form : Form) (base : Base) (
 
   -- ---- the root
 
-  module _ (old mid : View) (sound : IsSound old) (room : disk_size layout ≤ old.sectors) (each : InEach old P) (bytes : List ℕ) where
+  module _ (old mid : View) (sound : IsSound old) (room : root_at o < old.sectors) (each : InEach old P) (bytes : List ℕ) where
     pub in_read : (result : Result Unit DiskError) → HasRead old mid (root_at o) bytes result → LeavesOnly old mid P
     in_read result has = read_on old old mid P (root_at o) bytes result (started old P sound each) has each
 
-    pub in_root : (new : View) (one : List ℕ) (result : Result Unit DiskError) → HasRead old mid (root_at o) bytes (Ok tt) → IsOpen bytes → IsSound mid → mid.sectors ≡ old.sectors → HasWritten mid new (root_at o) one result → LeavesOnly old new P
+    pub in_root : (new : View) (one : List ℕ) (result : Result Unit DiskError) → HasRead old mid (root_at o) bytes (Ok tt) → IsOpen bytes →
+        IsSound mid → mid.sectors ≡ old.sectors → HasWritten mid new (root_at o) one result → LeavesOnly old new P
     in_root new one result has opened sound_mid same wrote =
         let each_mid : InEach mid P = λ image is. each image (read_images old mid (root_at o) bytes (Ok tt) has image is) in
         let places = lies layout o in
         let opened_mid : IsOpen (sector mid.reads (root_at o)) = ap (λ (b : List ℕ). slice_index b 0) (ap (λ (l : List (List ℕ)). sector l (root_at o)) has.reads ∙ sym has.given) ∙ opened in
         let older = older_each layout s form base held mid sound_mid (omega (arith, room, same)) each_mid opened_mid in
-        write_on old mid new P (root_at o) one result (in_read (Ok tt) has) sound_mid (omega (arith, room, same, places.root_in)) wrote (λ image torn.
+        write_on old mid new P (root_at o) one result (in_read (Ok tt) has) sound_mid (omega (arith, room, same)) wrote (λ image torn.
         let slot : sector image (slot_at layout o) ≡ sector torn.0 (slot_at layout o) = torn.2.others (slot_at layout o) (inr (omega (arith, places.root))) in
         stays_on_side layout s form base held torn.0 image (each_mid torn.0 torn.1) (root_torn layout o torn.0 image torn.2) (below_older layout o base.0 torn.0 image slot (older torn.0 torn.1)))
 
@@ -62,7 +63,8 @@ module _ {A : Type 0} (layout : Layout) (s : Side) (form : Form) (base : Base) (
         sync_on old new last P result (in_gate new one (Ok tt) wrote) syncs (λ image is. at_gate image (torn_by mid new (half_at layout o) one (Ok tt) sound inside wrote image is))
 
 -- once all is synced
-pub is_shut : (layout : Layout) (side : Side) (mid new last : View) → IsClosed (sector mid.reads (root_at side)) → HasWritten mid new (half_at layout side) closed_gate (Ok tt) → HasSynced new last (Ok tt) → IsShut layout side last
+pub is_shut : (layout : Layout) (side : Side) (mid new last : View) → IsClosed (sector mid.reads (root_at side)) →
+    HasWritten mid new (half_at layout side) closed_gate (Ok tt) → HasSynced new last (Ok tt) → IsShut layout side last
 is_shut layout side mid new last closed wrote syncs =
     let places = lies layout side in
     let far : root_at side ≢ half_at layout side = omega (arith, places.root, places.slot) in

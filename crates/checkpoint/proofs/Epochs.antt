@@ -1,6 +1,7 @@
 -- A slot that begins with an image states its epoch in its first sector.
 use Rattle.std.proofs.Common.{◌≡◌, ℕ, suc, ◌+◌, ◌-◌, ◌<◌, Bool, true, false, cond, List, [], ◌∷◌, Option, Some, None, Result, Ok, refl, sym, ap, ◌∙◌, arith}
 use Rattle.std.specs.Prelude.{map as each}
+use Rattle.base.proofs.Options.{some_is}
 use Rattle.registration.specs.declared.limits.Limits.{Limits}
 use Rattle.sector_disk.specs.Disk.{sector}
 use Rattle.centre_core.specs.State.{State}
@@ -13,9 +14,6 @@ use Rattle.checkpoint.specs.declared.layout.Layout.{Layout}
 use Rattle.checkpoint.specs.declared.side.Side.{Side}
 use Rattle.checkpoint.specs.Layout.{slot_at, slot_size}
 use Rattle.checkpoint.specs.OnSide.{Base, IsInSlot, epoch_of, sectors_from, slot_epoch}
-
-some_is : {X : Type 0} (x y : X) → Some x ≡ Some y → x ≡ y
-some_is x y e = cc
 
 ok_is : (x y : Base) → (let r : Result Base ℕ = Ok x in r) ≡ Ok y → x ≡ y
 ok_is x y e = cc
@@ -59,7 +57,8 @@ begun_header : (limits : Limits) (row : Row) (n : Loading) → row_taken (begun 
 unfolding row_taken
 begun_header limits (HeaderRow h) n e = (h, refl, may_begin limits h n (header_may limits h) e)
   where
-    may_begin : (limits : Limits) (h : Header) (n : Loading) (may : Bool) → cond may (Some (record { header = Some h; state = record ((begun limits).state) { count = h.count } })) None ≡ Some n → n.header ≡ Some h
+    may_begin : (limits : Limits) (h : Header) (n : Loading) (may : Bool) →
+        cond may (Some (record { header = Some h; state = record ((begun limits).state) { count = h.count } })) None ≡ Some n → n.header ≡ Some h
     may_begin limits h n true e = ap (λ (l : Loading). l.header) (sym (some_is (record { header = Some h; state = record ((begun limits).state) { count = h.count } }) n e))
     may_begin limits h n false e = absurd cc
 begun_header limits (RuleRow prefix rule) n e = absurd cc

@@ -29,7 +29,8 @@ use Rattle.checkpoint.proofs.Spared.{closed_as, left_each, slot_torn, stays_on_s
 -- the rows of an image have room in a slot
 pub rows_have_room : (layout : Layout) (epoch : ℕ) (state : State) → IsState state → state.registered.limits ≡ layout.limits → length (rows_of epoch state) ≤ slot_size layout
 rows_have_room layout epoch state is same =
-    let fit : length (rows_of epoch state) ≤ 1 + state.registered.limits.rules + state.registered.limits.radios + state.registered.limits.mail + state.registered.limits.stations = rows_fit epoch state is in
+    let fit : length (rows_of epoch state) ≤ 1 + state.registered.limits.rules + state.registered.limits.radios + state.registered.limits.mail +
+    state.registered.limits.stations = rows_fit epoch state is in
     rw same at fit
 
 -- ---- sectors
@@ -48,7 +49,8 @@ sectors_are image at [] are = refl
 sectors_are image at (x ∷ xs) are =
     let here : at + 0 ≡ at = omega arith in
     let first : sector image at ≡ x = rw here at (are 0 (omega arith)) in
-    let rest : sectors_from image (at + 1) (length xs) ≡ xs = sectors_are image (at + 1) xs (λ k lt. let there : at + suc k ≡ at + 1 + k = omega arith in rw there at (are (suc k) (omega (arith, lt)))) in
+    let rest : sectors_from image (at + 1) (length xs) ≡ xs =
+    sectors_are image (at + 1) xs (λ k lt. let there : at + suc k ≡ at + 1 + k = omega arith in rw there at (are (suc k) (omega (arith, lt)))) in
     rw (first, rest) refl
 
 -- after the header that is written the records are numbered
@@ -56,8 +58,10 @@ header_form : (epoch : ℕ) (state : State) → stated_form (row_sector (epoch, 
 header_form epoch state = rw (header_is_tagged (header_of epoch state)) refl
 
 -- sectors that were written are the image, and after it the records are numbered
-pub written_slot : (layout : Layout) (at epoch : ℕ) (state : State) (image : List (List ℕ)) → IsState state → StateInRange state → state.registered.limits ≡ layout.limits → 0 < epoch → epoch ≤ last_epoch
-    → ((k : ℕ) → k < length (rows_of epoch state) → sector image (at + k) ≡ row_sector (epoch, state) k) → (slot_of layout.limits (sectors_from image at (slot_size layout)) ≡ Ok (epoch, state)) × (stated_form (sector image at) ≡ Numbered)
+pub written_slot : (layout : Layout) (at epoch : ℕ) (state : State) (image : List (List ℕ)) → IsState state → StateInRange state →
+    state.registered.limits ≡ layout.limits → 0 < epoch → epoch ≤ last_epoch
+    → ((k : ℕ) → k < length (rows_of epoch state) → sector image (at + k) ≡ row_sector (epoch, state) k) →
+    (slot_of layout.limits (sectors_from image at (slot_size layout)) ≡ Ok (epoch, state)) × (stated_form (sector image at) ≡ Numbered)
 written_slot layout at epoch state image is ranges limits some most are =
     let n = length (rows_of epoch state) in
     let fit = rows_have_room layout epoch state is limits in
@@ -96,8 +100,10 @@ module _ (layout : Layout) (s : Side) (old mid : View) (shut : IsShut layout (ot
     in_last last result filled syncs = sync_on old new last P result (in_rows (Ok tt) filled) syncs (λ image is. at_slot image (filled.now image is))
 
 -- the image is on the disk
-pub is_ready : {A : Type 0} (layout : Layout) (side : Side) (epoch : ℕ) (state : State) (mid new last : View) → IsShut layout side mid → IsState state → StateInRange state → state.registered.limits ≡ layout.limits → 0 < epoch → epoch ≤ last_epoch
-    → HasFilled mid new (slot_at layout side) (length (rows_of epoch state)) (row_sector (epoch, state)) (Ok tt) → HasSynced new last (Ok tt) → InEach last (IsReady {A = A} layout side Numbered (epoch, state) (fresh layout side))
+pub is_ready : {A : Type 0} (layout : Layout) (side : Side) (epoch : ℕ) (state : State) (mid new last : View) → IsShut layout side mid →
+    IsState state → StateInRange state → state.registered.limits ≡ layout.limits → 0 < epoch → epoch ≤ last_epoch
+    → HasFilled mid new (slot_at layout side) (length (rows_of epoch state)) (row_sector (epoch, state)) (Ok tt) → HasSynced new last (Ok tt) →
+    InEach last (IsReady {A = A} layout side Numbered (epoch, state) (fresh layout side))
 is_ready layout side epoch state mid new last shut is ranges limits some most filled syncs image left =
     let places = lies layout side in
     let fit = rows_have_room layout epoch state is limits in
@@ -109,6 +115,8 @@ is_ready layout side epoch state mid new last shut is ranges limits some most fi
       root = closed_as (sector mid.reads (root_at side)) (sector image (root_at side)) (same (root_at side) (inl places.root)) shut.root;
       slot = written.0;
       form_is = written.1;
-      half = last_gate Numbered (half_end layout side - half_at layout side) state.count image (half_at layout side) (half_end layout side) (closed_as (sector mid.reads (half_at layout side)) (sector image (half_at layout side)) (same (half_at layout side) (inr (omega (arith, fit, places.slot)))) shut.gate);
+      half = last_gate Numbered (half_end layout side - half_at layout side) state.count image (half_at layout side) (half_end layout side)
+          (closed_as (sector mid.reads (half_at layout side)) (sector image (half_at layout side))
+          (same (half_at layout side) (inr (omega (arith, fit, places.slot)))) shut.gate);
       gate = let some = layout.in_range.fewest in omega (arith, some);
     }

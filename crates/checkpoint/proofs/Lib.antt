@@ -1,6 +1,8 @@
 pub mod Added
 pub mod Apart
 pub mod Called
+pub mod ByRoot
+pub mod Kept
 pub mod Closed
 pub mod Epochs
 pub mod Imaged
@@ -9,5 +11,6 @@ pub mod Switched
 pub mod Walked
 pub mod Worked
 pub mod Readback
+pub mod OnlyReading
 pub mod ReadCalls
 pub mod NextRows

@@ -48,7 +48,9 @@ read_made old mid new at k n lt were has =
       made = read_calls at k ++ has.made;
       left = has.left ++ part.left;
       prefix = part.prefix ∙ ap (λ (some : List Call). some ++ part.left) (sym (one_more at k) ∙ ap (λ (some : List Call). read_calls at k ++ some) has.prefix)
-          ∙ append_assoc (read_calls at k) (has.made ++ has.left) part.left ∙ ap (λ (some : List Call). read_calls at k ++ some) (append_assoc has.made has.left part.left) ∙ sym (append_assoc (read_calls at k) has.made (has.left ++ part.left));
+          ∙ append_assoc (read_calls at k) (has.made ++ has.left) part.left ∙
+          ap (λ (some : List Call). read_calls at k ++ some) (append_assoc has.made has.left part.left) ∙
+          sym (append_assoc (read_calls at k) has.made (has.left ++ part.left));
       now = has.now ∙ ap (λ (some : List Call). some ++ has.made) were ∙ append_assoc old.calls (read_calls at k) has.made;
     }
 

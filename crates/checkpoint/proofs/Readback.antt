@@ -5,15 +5,17 @@ use Rattle.std.specs.Option.{is_some}
 use Rattle.std.specs.List.{All}
 use Rattle.std.proofs.lemmas.List.Elements.{All-nil, All-push}
 use Rattle.std.proofs.lemmas.List.{length-append}
+use Rattle.base.proofs.Options.{some_is}
 use Rattle.sector_disk.specs.Disk.{IsSector, sector}
 use Rattle.registration.specs.declared.limits.Limits.{Limits}
 use Rattle.centre_core.specs.State.{State}
 use Rattle.image_rows.specs.Rows.{Row, HeaderRow, RuleRow, RadioRow, MailRow, ServedRow, Header, RowInRange, rows_of}
 use Rattle.image_rows.specs.RowReading.{row_in}
-use Rattle.image_rows.specs.Loading.{◌>>=◌, Loading, all_done, all_taken, begin, begun, finished, finished_by, header_may, mail_may, put, radio_may, row_taken, rule_may, served_may, state_of_rows, take_by, taken_mail, taken_radio, taken_rule, taken_served}
+use Rattle.image_rows.specs.Loading.{◌>>=◌, Loading, all_done, all_taken, begin, begun, finished, finished_by, header_may, mail_may, put, radio_may}
+use Rattle.image_rows.specs.Loading.{row_taken, rule_may, served_may, state_of_rows, take_by, taken_mail, taken_radio, taken_rule, taken_served}
 use Rattle.image_rows.specs.Slot.{or_later, read_from, with_row}
 use Rattle.command_bytes.proofs.Steps.{some_where}
-use Rattle.image_rows.proofs.Exactly.{bind_some, some_is, only_these_rows}
+use Rattle.image_rows.proofs.Exactly.{bind_some, only_these_rows}
 use Rattle.image_rows.proofs.Rules.{all_taken-append}
 use Rattle.image_rows.proofs.Settled.{row_is_spelt}
 use Rattle.image_rows.specs.Image.{slot_of}
@@ -183,12 +185,16 @@ one_taken limits k l n bytes is e has =
 put_limits : (h : Header) (s n : State) (row : Row) → put h s row ≡ Some n → n.registered.limits ≡ s.registered.limits
 put_limits h s n (HeaderRow again) e = absurd cc
 put_limits h s n (RuleRow prefix rule) e = let is = some_where (rule_may h s prefix) (Some (taken_rule s prefix rule)) n e in ap (λ (t : State). t.registered.limits) (sym (some_is _ n is.1))
-put_limits h s n (RadioRow itsi radio groups) e = let is = some_where (radio_may h s itsi radio groups) (Some (taken_radio s itsi radio groups)) n e in ap (λ (t : State). t.registered.limits) (sym (some_is _ n is.1))
+put_limits h s n (RadioRow itsi radio groups) e = let is = some_where (radio_may h s itsi radio groups) (Some (taken_radio s itsi radio groups)) n e
+    in ap (λ (t : State). t.registered.limits) (sym (some_is _ n is.1))
 put_limits h s n (MailRow w) e = let is = some_where (mail_may h s w) (Some (taken_mail s w)) n e in ap (λ (t : State). t.registered.limits) (sym (some_is _ n is.1))
-put_limits h s n (ServedRow station last) e = let is = some_where (served_may h s station last) (Some (taken_served s station last)) n e in ap (λ (t : State). t.registered.limits) (sym (some_is _ n is.1))
+put_limits h s n (ServedRow station last) e = let is = some_where (served_may h s station last) (Some (taken_served s station last)) n e in
+    ap (λ (t : State). t.registered.limits) (sym (some_is _ n is.1))
 
 begin_limits : (s : State) (n : Loading) (row : Row) → begin s row ≡ Some n → n.state.registered.limits ≡ s.registered.limits
-begin_limits s n (HeaderRow h) e = let is = some_where (header_may s.registered.limits h) (Some (record { header = Some h; state = record s { count = h.count } })) n e in ap (λ (l : Loading). l.state.registered.limits) (sym (some_is _ n is.1))
+begin_limits s n (HeaderRow h) e = let is =
+    some_where (header_may s.registered.limits h) (Some (record { header = Some h; state = record s { count = h.count } })) n e in
+    ap (λ (l : Loading). l.state.registered.limits) (sym (some_is _ n is.1))
 begin_limits s n (RuleRow prefix rule) e = absurd cc
 begin_limits s n (RadioRow itsi radio groups) e = absurd cc
 begin_limits s n (MailRow w) e = absurd cc

@@ -11,7 +11,7 @@ use Rattle.image_rows.specs.RowReading.{row_in}
 use Rattle.image_rows.specs.Image.{slot_of}
 use Rattle.checkpoint.specs.declared.layout.Layout.{Layout}
 use Rattle.checkpoint.specs.declared.side.Side.{Side}
-use Rattle.checkpoint.specs.Layout.{disk_size, half_at, half_end, label_at, other_of, root_at, slot_at, slot_size}
+use Rattle.checkpoint.specs.Layout.{half_at, half_end, label_at, other_of, root_at, slot_at, slot_size}
 use Rattle.checkpoint.specs.Label.{label_size}
 use Rattle.checkpoint.specs.OnSide.{Base, Held, InEach, IsBelow, IsOnSide, epoch_of, stated_form, sectors_from, slot_epoch}
 use Rattle.checkpoint.proofs.Apart.{IsElsewhere, half_elsewhere, label_elsewhere, lies, root_elsewhere, slot_elsewhere}
@@ -55,12 +55,14 @@ module _ (layout : Layout) (s : Side) (old new : List (List ℕ)) where
       }
 
 -- the other side still counts for nothing, where its root and its slot's first sector are the same
-pub below_same : (layout : Layout) (s : Side) (epoch : ℕ) (old new : List (List ℕ)) → sector new (root_at s) ≡ sector old (root_at s) → sector new (slot_at layout s) ≡ sector old (slot_at layout s) → IsBelow layout s epoch old → IsBelow layout s epoch new
+pub below_same : (layout : Layout) (s : Side) (epoch : ℕ) (old new : List (List ℕ)) → sector new (root_at s) ≡ sector old (root_at s) →
+    sector new (slot_at layout s) ≡ sector old (slot_at layout s) → IsBelow layout s epoch old → IsBelow layout s epoch new
 below_same layout s epoch old new root slot (inl closed) = inl (closed_as (sector old (root_at s)) (sector new (root_at s)) root closed)
 below_same layout s epoch old new root slot (inr (e, states, lt)) = inr (e, ap (λ (bytes : List ℕ). epoch_of (row_in bytes)) slot ∙ states, lt)
 
 module _ {A : Type 0} (layout : Layout) (s : Side) (form : Form) where
-  pub stays_on_side : (base : Base) (held : Held A) (old new : List (List ℕ)) → IsOnSide layout s form base held old → Spares layout (other_of s) old new → IsBelow layout (other_of s) base.0 new → IsOnSide layout s form base held new
+  pub stays_on_side : (base : Base) (held : Held A) (old new : List (List ℕ)) → IsOnSide layout s form base held old →
+      Spares layout (other_of s) old new → IsBelow layout (other_of s) base.0 new → IsOnSide layout s form base held new
   stays_on_side base held old new was spares below = record {
     room = rw spares.count was.room;
     label = ap (λ (bytes : List ℕ). take label_size bytes) (spares.others label_at (label_elsewhere layout s)) ∙ was.label;
@@ -68,7 +70,8 @@ module _ {A : Type 0} (layout : Layout) (s : Side) (form : Form) where
     below = below;
     slot = ap (slot_of layout.limits) (sectors_same old new (slot_at layout s) (slot_size layout) (λ k low high. spares.others k (slot_elsewhere layout s k low high))) ∙ was.slot;
     form_is = ap stated_form (spares.others (slot_at layout s) (slot_elsewhere layout s (slot_at layout s) (omega arith) (let places = lies layout s in omega (arith, places.some)))) ∙ was.form_is;
-    half = same_half form base.1.count old new (half_at layout s) (half_end layout s) held.0 held.1 was.half (λ k low high. let gate = was.gate in spares.others k (half_elsewhere layout s k low (omega (arith, high, gate))));
+    half = same_half form base.1.count old new (half_at layout s) (half_end layout s) held.0 held.1 was.half
+        (λ k low high. let gate = was.gate in spares.others k (half_elsewhere layout s k low (omega (arith, high, gate))));
     gate = was.gate;
   }
 
@@ -105,18 +108,20 @@ older_or : (layout : Layout) (s : Side) (epoch : ℕ) (image : List (List ℕ)) 
 older_or layout s epoch image opened (inl closed) = absurd (closed opened)
 older_or layout s epoch image opened (inr (e, states, lt)) = record { stated = e; states = states; less = lt }
 
-pub older_each : {A : Type 0} (layout : Layout) (s : Side) (form : Form) (base : Base) (held : Held A) (disk : View) → IsSound disk → disk_size layout ≤ disk.sectors → InEach disk (IsOnSide layout s form base held)
+pub older_each : {A : Type 0} (layout : Layout) (s : Side) (form : Form) (base : Base) (held : Held A) (disk : View) → IsSound disk →
+    root_at (other_of s) < disk.sectors → InEach disk (IsOnSide layout s form base held)
     → IsOpen (sector disk.reads (root_at (other_of s))) → InEach disk (IsOlder layout (other_of s) base.0)
-older_each layout s form base held disk sound room each opened image is =
+older_each layout s form base held disk sound within each opened image is =
     let o = other_of s in
     let places = lies layout o in
-    let within : root_at o < disk.sectors = omega (arith, places.root_in, room) in
     let here : root_at o < length image = omega (arith, is.count, sound.count, within) in
     let with : List (List ℕ) = set image (root_at o) (sector disk.reads (root_at o)) in
     let root : sector with (root_at o) ≡ sector disk.reads (root_at o) = get_or-set_same image (root_at o) (sector disk.reads (root_at o)) [] here in
-    let slot : sector with (slot_at layout o) ≡ sector image (slot_at layout o) = let far : slot_at layout o ≢ root_at o = omega (arith, places.root) in get_or-set_other image (root_at o) (slot_at layout o) (sector disk.reads (root_at o)) [] far in
+    let slot : sector with (slot_at layout o) ≡ sector image (slot_at layout o) = let far : slot_at layout o ≢ root_at o =
+    omega (arith, places.root) in get_or-set_other image (root_at o) (slot_at layout o) (sector disk.reads (root_at o)) [] far in
     let older = older_or layout o base.0 with (ap (λ (bytes : List ℕ). slice_index bytes 0) root ∙ opened) (each with (with_read disk (root_at o) image sound within is)).below in
     record { stated = older.stated; states = ap (λ (bytes : List ℕ). epoch_of (row_in bytes)) (sym slot) ∙ older.states; less = older.less }
 
-pub below_older : (layout : Layout) (s : Side) (epoch : ℕ) (old new : List (List ℕ)) → sector new (slot_at layout s) ≡ sector old (slot_at layout s) → IsOlder layout s epoch old → IsBelow layout s epoch new
+pub below_older : (layout : Layout) (s : Side) (epoch : ℕ) (old new : List (List ℕ)) → sector new (slot_at layout s) ≡ sector old (slot_at layout s) →
+    IsOlder layout s epoch old → IsBelow layout s epoch new
 below_older layout s epoch old new slot older = inr (older.stated, ap (λ (bytes : List ℕ). epoch_of (row_in bytes)) slot ∙ older.states, older.less)

@@ -38,7 +38,9 @@ module _ {A : Type 0} (layout : Layout) (s : Side) (form also : Form) (base next
     below =
         let places = lies layout s in
         let others = lies layout o in
-        let slot : sector image (slot_at layout s) ≡ sector was (slot_at layout s) = (root_torn layout o was image torn).others (slot_at layout s) (slot_elsewhere layout s (slot_at layout s) (omega arith) (omega (arith, places.some))) in
+        let slot : sector image (slot_at layout s) ≡ sector was (slot_at layout s) =
+        (root_torn layout o was image torn).others (slot_at layout s)
+        (slot_elsewhere layout s (slot_at layout s) (omega arith) (omega (arith, places.some))) in
         inr (base.0, ap (λ (bytes : List ℕ). epoch_of (row_in bytes)) slot ∙ slot_has_epoch layout s base was places.some on_side.slot, newer)
 
     open_on_side : IsOpen (sector image (root_at o)) → Other image
@@ -61,7 +63,8 @@ module _ {A : Type 0} (layout : Layout) (s : Side) (form also : Form) (base next
       | inr shut ↦ inl (stays_on_side layout s form base held was image on_side (root_torn layout o was image torn) (inl shut))
     ]
 
-  module _ (old mid : View) (sound : IsSound old) (room : disk_size layout ≤ old.sectors) (each : InEach old (IsOnSide layout s form base held)) (ready : InEach old (IsReady layout o also next more)) where
+  module _ (old mid : View) (sound : IsSound old) (room : disk_size layout ≤ old.sectors) (each : InEach old (IsOnSide layout s form base held))
+      (ready : InEach old (IsReady layout o also next more)) where
     at_root : (image : List (List ℕ)) → IsTornImage old (root_at o) 1 image → Either image
     at_root image torn = on_either_side torn.0 image torn.2 (each torn.0 torn.1) (ready torn.0 torn.1)
 

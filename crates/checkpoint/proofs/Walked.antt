@@ -64,7 +64,9 @@ module _ (epoch : ℕ) (state : State) where
     pub is : bytes ≡ row_sector (epoch, state) k
     pub more : Walk stated (k + 1)
 
-  one_more : (k : ℕ) (place : RowPlace) (bytes : List ℕ) (new : Option (RowPlace × List ℕ)) (row : Row) → Some (place, bytes) ≡ Some (placed_row row) → new ≡ option_map placed_row (row_after epoch state (Some place)) → k ≤ length (rows_of epoch state)
+  one_more : (k : ℕ) (place : RowPlace) (bytes : List ℕ) (new : Option (RowPlace × List ℕ)) (row : Row) →
+      Some (place, bytes) ≡ Some (placed_row row) → new ≡ option_map placed_row (row_after epoch state (Some place)) →
+      k ≤ length (rows_of epoch state)
       → row ∷ one_by_one (row_after epoch state) place_of (length (rows_of epoch state) - k) (Some (place_of row)) ≡ drop k (rows_of epoch state) → Goes k bytes new
   one_more k place bytes new row e next_is few on =
       let pair : (place, bytes) ≡ placed_row row = cc in
@@ -82,10 +84,13 @@ module _ (epoch : ℕ) (state : State) where
   counted : (k : ℕ) → k ≤ length (rows_of epoch state) → length (rows_of epoch state) + 1 - k ≡ suc (length (rows_of epoch state) - k)
   counted k few = omega (arith, few)
 
-  pub walk_on : (stated new : Option (RowPlace × List ℕ)) (k : ℕ) (place : RowPlace) (bytes : List ℕ) → Walk stated k → stated ≡ Some (place, bytes) → new ≡ option_map placed_row (row_after epoch state (Some place)) → Goes k bytes new
+  pub walk_on : (stated new : Option (RowPlace × List ℕ)) (k : ℕ) (place : RowPlace) (bytes : List ℕ) → Walk stated k → stated ≡ Some (place, bytes) →
+      new ≡ option_map placed_row (row_after epoch state (Some place)) → Goes k bytes new
   walk_on stated new k place bytes walk e next_is =
       let on = rw (counted k walk.few) at walk.on in
-      elim (row_after epoch state walk.after) as (λ o. Some (place, bytes) ≡ option_map placed_row o → then_on (λ x. one_by_one (row_after epoch state) place_of (length (rows_of epoch state) - k) (Some (place_of x))) o ≡ drop k (rows_of epoch state) → Goes k bytes new) [
+      elim (row_after epoch state walk.after) as (λ o. Some (place, bytes) ≡ option_map placed_row o →
+      then_on (λ x. one_by_one (row_after epoch state) place_of (length (rows_of epoch state) - k) (Some (place_of x))) o ≡ drop k
+      (rows_of epoch state) → Goes k bytes new) [
         | None ↦ λ none is. absurd cc
         | Some row ↦ λ some is. one_more k place bytes new row some next_is walk.few is
       ] (sym e ∙ walk.is) on
@@ -93,31 +98,43 @@ module _ (epoch : ℕ) (state : State) where
   pub walk_done : (stated : Option (RowPlace × List ℕ)) (k : ℕ) → Walk stated k → stated ≡ None → k ≡ length (rows_of epoch state)
   walk_done stated k walk e =
       let on = rw (counted k walk.few) at walk.on in
-      elim (row_after epoch state walk.after) as (λ o. None ≡ option_map placed_row o → then_on (λ x. one_by_one (row_after epoch state) place_of (length (rows_of epoch state) - k) (Some (place_of x))) o ≡ drop k (rows_of epoch state) → k ≡ length (rows_of epoch state)) [
+      elim (row_after epoch state walk.after) as
+      (λ o. None ≡ option_map placed_row o →
+      then_on (λ x. one_by_one (row_after epoch state) place_of (length (rows_of epoch state) - k) (Some (place_of x))) o ≡ drop k
+      (rows_of epoch state) → k ≡ length (rows_of epoch state)) [
         | None ↦ λ none is. let past = none_left (rows_of epoch state) k is in let few = walk.few in omega (arith, past, few)
         | Some row ↦ λ some is. absurd cc
       ] (sym e ∙ walk.is) on
 
   -- the row that comes next
-  pub walk_here : (stated : Option (RowPlace × List ℕ)) (k : ℕ) (next : RowPlace × List ℕ) → Walk stated k → stated ≡ Some next → Goes k next.1 (option_map placed_row (row_after epoch state (Some next.0)))
+  pub walk_here : (stated : Option (RowPlace × List ℕ)) (k : ℕ) (next : RowPlace × List ℕ) → Walk stated k → stated ≡ Some next →
+      Goes k next.1 (option_map placed_row (row_after epoch state (Some next.0)))
   walk_here stated k next walk e = walk_on stated (option_map placed_row (row_after epoch state (Some next.0))) k next.0 next.1 walk e refl
 
   -- ---- a few rows at a time
 
-  pub as_walk : (progress : Progress) → IsProgress epoch state progress → (stated : Option (RowPlace × List ℕ)) → stated ≡ option_map placed_row (row_after epoch state progress.last) → Walk stated progress.written
+  pub as_walk : (progress : Progress) → IsProgress epoch state progress → (stated : Option (RowPlace × List ℕ)) →
+      stated ≡ option_map placed_row (row_after epoch state progress.last) → Walk stated progress.written
   as_walk progress is stated e = record { after = progress.last; is = e; few = is.few; on = is.on }
 
   -- the next row is written
   pub progress_on : (progress : Progress) → IsProgress epoch state progress → (place : RowPlace) (bytes : List ℕ) → Some (place, bytes) ≡ option_map placed_row (row_after epoch state progress.last)
-      → (progress.written < length (rows_of epoch state)) × (bytes ≡ row_sector (epoch, state) progress.written) × IsProgress epoch state (record progress { written = progress.written + 1; last = Some place })
+      → (progress.written < length (rows_of epoch state)) × (bytes ≡ row_sector (epoch, state) progress.written) ×
+      IsProgress epoch state (record progress { written = progress.written + 1; last = Some place })
   progress_on progress is place bytes e =
       let on = rw (counted progress.written is.few) at is.on in
-      elim (row_after epoch state progress.last) as (λ o. Some (place, bytes) ≡ option_map placed_row o → then_on (λ x. one_by_one (row_after epoch state) place_of (length (rows_of epoch state) - progress.written) (Some (place_of x))) o ≡ drop progress.written (rows_of epoch state) → (progress.written < length (rows_of epoch state)) × (bytes ≡ row_sector (epoch, state) progress.written) × IsProgress epoch state (record progress { written = progress.written + 1; last = Some place })) [
+      elim (row_after epoch state progress.last) as (λ o. Some (place, bytes) ≡ option_map placed_row o →
+      then_on (λ x. one_by_one (row_after epoch state) place_of (length (rows_of epoch state) - progress.written) (Some (place_of x))) o ≡ drop
+      progress.written (rows_of epoch state) → (progress.written < length (rows_of epoch state)) ×
+      (bytes ≡ row_sector (epoch, state) progress.written) ×
+      IsProgress epoch state (record progress { written = progress.written + 1; last = Some place })) [
         | None ↦ λ none is. absurd cc
         | Some row ↦ λ some rest. one_written progress.written place bytes row some is.few rest
       ] e on
     where
-      one_written : (k : ℕ) (place : RowPlace) (bytes : List ℕ) (row : Row) → Some (place, bytes) ≡ Some (placed_row row) → k ≤ length (rows_of epoch state) → row ∷ one_by_one (row_after epoch state) place_of (length (rows_of epoch state) - k) (Some (place_of row)) ≡ drop k (rows_of epoch state)
+      one_written : (k : ℕ) (place : RowPlace) (bytes : List ℕ) (row : Row) → Some (place, bytes) ≡ Some (placed_row row) →
+          k ≤ length (rows_of epoch state) → row ∷ one_by_one (row_after epoch state) place_of (length (rows_of epoch state) - k)
+          (Some (place_of row)) ≡ drop k (rows_of epoch state)
           → (k < length (rows_of epoch state)) × (bytes ≡ row_sector (epoch, state) k) × IsProgress epoch state (record progress { written = k + 1; last = Some place })
       one_written k place bytes row e few on =
           let pair : (place, bytes) ≡ placed_row row = cc in
@@ -136,15 +153,19 @@ module _ (epoch : ℕ) (state : State) where
   progress_done progress is e = walk_done None progress.written (as_walk progress is None e) refl
 
   -- one is left
-  pub progress_left : (progress : Progress) → IsProgress epoch state progress → (next : RowPlace × List ℕ) → Some next ≡ option_map placed_row (row_after epoch state progress.last) → progress.written < length (rows_of epoch state)
+  pub progress_left : (progress : Progress) → IsProgress epoch state progress → (next : RowPlace × List ℕ) →
+      Some next ≡ option_map placed_row (row_after epoch state progress.last) → progress.written < length (rows_of epoch state)
   progress_left progress is next e = (progress_on progress is next.0 next.1 e).0
 
   -- whether none is left
-  pub whole_where_none : (progress : Progress) → IsProgress epoch state progress → is_none (option_map placed_row (row_after epoch state progress.last)) ≡ nat_eq progress.written (length (rows_of epoch state))
-  whole_where_none progress is = elim (option_map placed_row (row_after epoch state progress.last)) as (λ o. o ≡ option_map placed_row (row_after epoch state progress.last) → is_none o ≡ nat_eq progress.written (length (rows_of epoch state))) [
-    | None ↦ λ e. let done = progress_done progress is e in grind (arith, nat_tests)
-    | Some next ↦ λ e. let left = progress_left progress is next e in grind (arith, nat_tests)
-  ] refl
+  pub whole_where_none : (progress : Progress) → IsProgress epoch state progress →
+      is_none (option_map placed_row (row_after epoch state progress.last)) ≡ nat_eq progress.written (length (rows_of epoch state))
+  whole_where_none progress is =
+      elim (option_map placed_row (row_after epoch state progress.last)) as (λ o. o ≡ option_map placed_row (row_after epoch state progress.last) →
+      is_none o ≡ nat_eq progress.written (length (rows_of epoch state))) [
+        | None ↦ λ e. let done = progress_done progress is e in grind (arith, nat_tests)
+        | Some next ↦ λ e. let left = progress_left progress is next e in grind (arith, nat_tests)
+      ] refl
 
 pub progress_begun : (epoch : ℕ) (state : State) → IsState state → StateInRange state → (progress : Progress) → progress.written ≡ 0 → progress.last ≡ None → IsProgress epoch state progress
 progress_begun epoch state is ranges progress written last =

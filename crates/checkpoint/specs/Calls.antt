@@ -1,9 +1,9 @@
 -- The calls of the disk that make an image of a register count.
-use Rattle.std.specs.Prelude.{ℕ, Bool, List, [], ◌∷◌, ◌++◌, length, if◌then◌else◌}
+use Rattle.std.specs.Prelude.{ℕ, Bool, List, [], ◌∷◌, ◌++◌, length, if◌then◌else◌, OnOk, Result}
 use Rattle.identity.specs.Numbers.{Byte}
 use Rattle.sector_disk.specs.Numbers.{Sector}
-use Rattle.sector_disk.specs.Disk.{sector}
-use Rattle.sector_disk.specs.Run.{writes}
+use Rattle.sector_disk.specs.Disk.{View, sector}
+use Rattle.sector_disk.specs.Run.{HasCalled, HasMade, writes}
 use Rattle.sector_disk.specs.declared.record.Call.{Call}
 use Rattle.sector_disk.specs.declared.record.Call.TheVariants.{Read, Sync, Write}
 use Rattle.gated_journal.specs.Calls.{closed_gate, open_gate}
@@ -51,10 +51,29 @@ row_calls at base = writes at (length (rows_of base.0 base.1)) (row_sector base)
 abbrev pub image_calls_by : Layout → Side → Bool → Base → List Call
 image_calls_by layout side was_open base = close_calls_by layout side was_open ++ row_calls (slot_at layout side) base ++ Sync ∷ []
 
--- the same, by what the side's root reads as
+-- the side is closed by what its root reads as, then the image is written and synced
 abbrev pub image_calls : Layout → Side → List (List Byte) → Base → List Call
 image_calls layout side reads base = image_calls_by layout side (is_root_open side reads) base
 
 -- the side's root is opened
 abbrev pub switch_calls : Side → List Call
 switch_calls side = Write (root_at side) open_gate ∷ Sync ∷ []
+
+-- ---- which of these a call of this crate makes
+
+-- At `Ok` the disk has had all of these calls, and after an error a prefix of them. A call that fails is the last.
+pub record MakesCalls {T E : Type 0} (old new : View) (list : List Call) (result : Result T E) : Type 0 where
+  pub calls : OnOk result (HasCalled old new list)
+  pub some_calls : HasMade old new list
+
+-- The side's root is read, and written only where it reads as open: the disk has these calls by whether it did. One that is
+-- not honest has those of a root that did, or of one that did not.
+pub record MakesCallsByRoot {T E : Type 0} (old new : View) (side : Side) (calls_by : Bool → List Call) (result : Result T E) : Type 0 where
+  pub calls : OnOk result (old.honest → HasCalled old new (calls_by (is_root_open side old.reads)))
+  pub some_calls : old.honest → HasMade old new (calls_by (is_root_open side old.reads))
+  pub calls_on_any_disk : OnOk result ((was_open : Bool) × HasCalled old new (calls_by was_open))
+  pub some_calls_on_any_disk : (was_open : Bool) × HasMade old new (calls_by was_open)
+
+-- the calls that write an image to a side, by what the side's root reads as
+abbrev pub MakesImageCalls : {T E : Type 0} → View → View → Layout → Side → Base → Result T E → Type 0
+MakesImageCalls old new layout side base result = MakesCallsByRoot old new side (λ was_open. image_calls_by layout side was_open base) result

@@ -4,5 +4,8 @@ pub mod Label
 pub mod OnSide
 pub mod Worked
 pub mod Calls
+pub mod Writing
 pub mod Progress
 pub mod Reading
+pub mod Adding
+pub mod Inside

@@ -137,8 +137,25 @@ module _ {A : Type 0} where
   IsEither layout current form also base next held more image =
       IsOnSide layout current form base held image ⊎ IsOnSide layout (other_of current) also next more image
 
+-- In every image of the disk only this side's root is not open yet. Its slot holds this image, in layout 2, and its half no record.
+abbrev pub HasFreshImage : Type 0 → Layout → Side → Base → View → Type 0
+HasFreshImage A layout side base disk = EachIsReady {A = A} disk layout side Numbered base (fresh layout side)
+
 -- A stop at any moment from old to new leaves an honest disk on this side, with the same register and records.
 abbrev pub KeepsSide : Type 0 → Layout → Side → View → View → Type 0
 KeepsSide A layout side old new =
     (form : Form) (base : Base) (held : Held A) → old.honest → EachIsOnSide old layout side form base held
     → LeavesOnly old new (IsOnSide layout side form base held)
+
+-- The other side of an honest disk has a newer image, and only its root is not open yet. A stop at any moment from old to new
+-- leaves the disk on this side or on the other one.
+abbrev pub KeepsEitherSide : Type 0 → Layout → Side → View → View → Type 0
+KeepsEitherSide A layout side old new =
+    (form also : Form) (base next : Base) (held more : Held A) → base.0 < next.0 → old.honest → EachIsOnSide old layout side form base held
+    → EachIsReady old layout (other_of side) also next more → LeavesOnly old new (IsEither layout side form also base next held more)
+
+-- From such a disk, new is on the other side, with the records there.
+abbrev pub ChangesSide : Type 0 → Layout → Side → View → View → Type 0
+ChangesSide A layout side old new =
+    (form also : Form) (base next : Base) (held more : Held A) → base.0 < next.0 → old.honest → EachIsOnSide old layout side form base held
+    → EachIsReady old layout (other_of side) also next more → EachIsOnSide new layout (other_of side) also next more

@@ -4,7 +4,6 @@ use Rattle.identity.specs.Numbers.{Byte}
 use Rattle.prefix_tree.specs.Following.{one_by_one}
 use Rattle.sector_disk.specs.Numbers.{Sector}
 use Rattle.sector_disk.specs.Disk.{View}
-use Rattle.sector_disk.specs.Filling.{HasFilled}
 use Rattle.sector_disk.specs.Run.{writes}
 use Rattle.sector_disk.specs.declared.disk.DiskError.{DiskError}
 use Rattle.sector_disk.specs.declared.record.Call.{Call}
@@ -15,6 +14,7 @@ use Rattle.image_rows.specs.Walking.{place_of, row_after}
 use Rattle.checkpoint.specs.Calls.{row_sector}
 use Rattle.checkpoint.specs.Layout.{slot_at}
 use Rattle.checkpoint.specs.OnSide.{Base}
+use Rattle.checkpoint.specs.Writing.{WritesRows}
 use Rattle.checkpoint.specs.declared.layout.Layout.{Layout}
 use Rattle.checkpoint.specs.declared.progress.Progress.{Progress}
 use Rattle.checkpoint.specs.declared.side.Side.{Side}
@@ -49,6 +49,10 @@ next_calls_at at base written = writes (at + written) (next_rows base.0 base.1 w
 abbrev pub next_calls : Layout → Side → Base → ℕ → List Call
 next_calls layout side base written = next_calls_at (slot_at layout side) base written
 
--- what a stop leaves of these writes, and what a read then gives
-abbrev pub HasFilledNext : View → View → Sector → Base → ℕ → Result Unit DiskError → Type 0
-HasFilledNext old new at base written result = HasFilled old new (at + written) (next_rows base.0 base.1 written) (next_row base written) result
+-- the next rows are written, to the slot that begins with this sector
+abbrev pub WritesNextAt : View → View → Sector → Base → ℕ → Result Unit DiskError → Type 0
+WritesNextAt old new at base written result = WritesRows old new (at + written) (next_rows base.0 base.1 written) (next_row base written) result
+
+-- and to the slot of a side, after those that this progress says
+abbrev pub WritesNext : View → View → Layout → Side → State → Progress → Result Unit DiskError → Type 0
+WritesNext old new layout side register progress result = WritesNextAt old new (slot_at layout side) (progress.epoch, register) progress.written result

@@ -1,15 +1,18 @@
 -- What a read of a slot's image returns, and the calls of the disk that it makes.
-use Rattle.std.specs.Prelude.{◌≡◌, ℕ, zero, suc, ◌+◌, ◌≤◌, List, [], ◌∷◌, ◌++◌, length, Err}
+use Rattle.std.specs.Prelude.{◌≡◌, ℕ, zero, suc, ◌+◌, ◌<◌, ◌≤◌, List, [], ◌∷◌, ◌++◌, length, Err, IsErrOf, Result}
 use Rattle.identity.specs.Numbers.{Byte}
 use Rattle.sector_disk.specs.Numbers.{Sector, Sectors}
 use Rattle.sector_disk.specs.Disk.{View}
+use Rattle.sector_disk.specs.Run.{HasCalled}
 use Rattle.sector_disk.specs.declared.record.Call.{Call}
 use Rattle.sector_disk.specs.declared.record.Call.TheVariants.{Read}
 use Rattle.image_rows.specs.Rows.{rows_of}
 use Rattle.checkpoint.specs.declared.layout.Layout.{Layout}
+use Rattle.checkpoint.specs.declared.read_fault.ReadFault.{ReadFault}
+use Rattle.checkpoint.specs.declared.read_fault.ReadFault.TheVariants.{Damaged, NoMemory}
 use Rattle.checkpoint.specs.declared.side.Side.{Side}
 use Rattle.checkpoint.specs.Layout.{slot_at}
-use Rattle.checkpoint.specs.OnSide.{Base, slot_in}
+use Rattle.checkpoint.specs.OnSide.{Base, IsInSlot, slot_in}
 
 -- that sector of the disk is the first bad one of the side's slot
 abbrev pub IsBadSector : Layout → Side → Sector → List (List Byte) → Type 0
@@ -29,3 +32,16 @@ pub record IsGoodSoFar (layout : Layout) (side : Side) (old new : View) : Type 0
   pub read : Sectors
   pub calls : new.calls ≡ old.calls ++ read_calls (slot_at layout side) read
   pub good : (place : ℕ) → slot_in layout side old.reads ≡ Err place → read ≤ place
+
+-- This image is the one in the side's slot, under the layout's limits. Each of its sectors was read once, in order.
+pub record HasReadImage (layout : Layout) (side : Side) (old new : View) (image : Base) : Type 0 where
+  pub exact : old.honest → IsInSlot layout side image old.reads
+  pub limits : image.1.registered.limits ≡ layout.limits
+  pub calls : old.honest → HasCalled old new (image_reads (slot_at layout side) image)
+
+-- Why an image is not read. `Damaged` names the slot's first bad sector. Out of memory never masks damage: all sectors that were
+-- read are good.
+pub record RefusesImage {T : Type 0} (layout : Layout) (side : Side) (old new : View) (result : Result T ReadFault) : Type 0 where
+  pub damaged : (at : ℕ) → IsErrOf result (Damaged at) → old.honest → IsBadSector layout side at old.reads
+  pub on_disk : (at : ℕ) → IsErrOf result (Damaged at) → at < old.sectors
+  pub memory : IsErrOf result NoMemory → old.honest → IsGoodSoFar layout side old new

@@ -1,12 +1,11 @@
 //! The other side of a disk, closed before an image is written there.
-ghost use Rattle.std.specs.Prelude.{◌≤◌, Bool, IsErrOf, OnOk};
+ghost use Rattle.std.specs.Prelude.{◌≤◌, ◌<◌, IsErrOf, OnOk};
 ghost use Rattle.sector_disk.specs.Disk.{HasCause, sector};
-ghost use Rattle.sector_disk.specs.Run.{HasCalled, HasMade};
 ghost use Rattle.sector_disk.specs.declared.disk.DiskError.TheVariants.{OutOfRange};
 ghost use Rattle.gated_journal.specs.Half.{IsClosed};
 ghost use Rattle.checkpoint.specs.Layout.{disk_size, other_of, root_at};
 ghost use Rattle.checkpoint.specs.OnSide.{IsShut, KeepsSide};
-ghost use Rattle.checkpoint.specs.Calls.{close_calls, close_calls_by, root_calls, root_calls_by};
+ghost use Rattle.checkpoint.specs.Calls.{MakesCallsByRoot, close_calls_by, root_calls_by};
 
 use crate::{Layout, Side};
 use sector_disk::{Disk, DiskError};
@@ -18,14 +17,10 @@ fn close_root<A: Allocator, D: Disk>(
     layout: &Layout,
     current: Side,
 ) -> Result<(), DiskError>
-    requires room { disk_size layout.now ≤ (D.view disk.old).sectors }
+    requires inside { root_at (other_of current) < (D.view disk.old).sectors }
     ensures any_moment { KeepsSide A layout.now current (D.view disk.old) (D.view disk.new) }
     ensures closed { OnOk result ((D.view disk.old).honest → IsClosed (sector (D.view disk.new).reads (root_at (other_of current)))) }
-    ensures calls { OnOk result ((D.view disk.old).honest
-        → HasCalled (D.view disk.old) (D.view disk.new) (root_calls (other_of current) (D.view disk.old).reads)) }
-    ensures some_calls { (D.view disk.old).honest → HasMade (D.view disk.old) (D.view disk.new) (root_calls (other_of current) (D.view disk.old).reads) }
-    ensures calls_on_any_disk { OnOk result ((was_open : Bool) × HasCalled (D.view disk.old) (D.view disk.new) (root_calls_by (other_of current) was_open)) }
-    ensures some_calls_on_any_disk { (was_open : Bool) × HasMade (D.view disk.old) (D.view disk.new) (root_calls_by (other_of current) was_open) }
+    ensures made { MakesCallsByRoot (D.view disk.old) (D.view disk.new) (other_of current) (root_calls_by (other_of current)) result }
     ensures cause { HasCause (D.view disk.old) (D.view disk.new) result }
     ensures in_range { IsErrOf result OutOfRange → ⊥ }
     ensures honest { (D.view disk.old).honest → (D.view disk.new).honest }
@@ -56,15 +51,7 @@ pub fn begin<A: Allocator, D: Disk>(
     ensures shut { OnOk result ((D.view disk.old).honest → IsShut layout.now (other_of current) (D.view disk.new)) }
 
     // The root is read, and written only where it reads as open. Then the gate is closed. A call that fails is the last.
-    ensures calls { OnOk result ((D.view disk.old).honest
-        → HasCalled (D.view disk.old) (D.view disk.new) (close_calls layout.now (other_of current) (D.view disk.old).reads)) }
-    ensures some_calls { (D.view disk.old).honest
-        → HasMade (D.view disk.old) (D.view disk.new) (close_calls layout.now (other_of current) (D.view disk.old).reads) }
-
-    // The same on a disk that is not honest, with the root's write or without it.
-    ensures calls_on_any_disk { OnOk result ((was_open : Bool)
-        × HasCalled (D.view disk.old) (D.view disk.new) (close_calls_by layout.now (other_of current) was_open)) }
-    ensures some_calls_on_any_disk { (was_open : Bool) × HasMade (D.view disk.old) (D.view disk.new) (close_calls_by layout.now (other_of current) was_open) }
+    ensures made { MakesCallsByRoot (D.view disk.old) (D.view disk.new) (other_of current) (close_calls_by layout.now (other_of current)) result }
 
     // It does not give up by itself.
     ensures cause { HasCause (D.view disk.old) (D.view disk.new) result }

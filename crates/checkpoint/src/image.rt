@@ -1,15 +1,12 @@
 // The image of a register written to the other side of a disk.
-ghost use Rattle.std.specs.Prelude.{◌≡◌, ◌≤◌, ◌<◌, ◌+◌, ◌^◌, Bool, Err, IsErr, IsErrOf, OnOk, length};
-ghost use Rattle.sector_disk.specs.Disk.{HasFailed};
-ghost use Rattle.sector_disk.specs.Run.{HasCalled, HasMade};
-ghost use Rattle.sector_disk.specs.Filling.{HasFilled};
-ghost use Rattle.sector_disk.specs.declared.disk.DiskError.TheVariants.{OutOfRange};
-ghost use Rattle.gated_journal.specs.declared.form.Form.TheVariants.{Numbered};
+ghost use Rattle.std.specs.Prelude.{◌≡◌, ◌≤◌, ◌<◌, ◌+◌, ◌^◌, Err, IsErrOf, OnOk, length};
+ghost use Rattle.sector_disk.specs.Effects.{KeepsDisk};
 ghost use Rattle.image_rows.specs.Rows.{last_epoch, rows_of};
 ghost use Rattle.checkpoint.specs.declared.fault.CheckpointError.TheVariants.{DiskFault, EpochsUsedUp};
-ghost use Rattle.checkpoint.specs.Layout.{disk_size, other_of};
-ghost use Rattle.checkpoint.specs.OnSide.{EachIsReady, KeepsSide, fresh};
-ghost use Rattle.checkpoint.specs.Calls.{image_calls, image_calls_by, row_calls, row_sector};
+ghost use Rattle.checkpoint.specs.Layout.{other_of};
+ghost use Rattle.checkpoint.specs.OnSide.{HasFreshImage, KeepsSide};
+ghost use Rattle.checkpoint.specs.Calls.{MakesImageCalls, row_sector};
+ghost use Rattle.checkpoint.specs.Writing.{HasRoomFor, WritesRows};
 
 use crate::{CheckpointError, Layout, Side, begin};
 use centre_core::Register;
@@ -27,14 +24,7 @@ pub fn write_rows<A: Allocator + Clone, D: Disk>(
 ) -> Result<(), DiskError>
     requires room { at + length (rows_of epoch register.now) ≤ (D.view disk.old).sectors }
     requires fits { at + length (rows_of epoch register.now) < 2 ^ 64 }
-    ensures effect { (D.view disk.old).honest → HasFilled (D.view disk.old) (D.view disk.new)
-        at (length (rows_of epoch register.now)) (row_sector (epoch, register.now)) result }
-    ensures calls { OnOk result (HasCalled (D.view disk.old) (D.view disk.new) (row_calls at (epoch, register.now))) }
-    ensures some_calls { HasMade (D.view disk.old) (D.view disk.new) (row_calls at (epoch, register.now)) }
-    ensures sectors { (D.view disk.new).sectors ≡ (D.view disk.old).sectors }
-    ensures later { (D.view disk.old).failures ≤ (D.view disk.new).failures }
-    ensures fault { IsErr result → HasFailed (D.view disk.old) (D.view disk.new) }
-    ensures in_range { IsErrOf result OutOfRange → ⊥ }
+    ensures rows { WritesRows (D.view disk.old) (D.view disk.new) at (length (rows_of epoch register.now)) (row_sector (epoch, register.now)) result }
 {
     centre_core::laws::registers(register);
     let mut written = 0;
@@ -59,36 +49,22 @@ pub fn write_image<A: Allocator + Clone, D: Disk>(
     epoch: u64,
     register: &Register<A>,
 ) -> Result<(), CheckpointError>
-    requires room { disk_size layout.now ≤ (D.view disk.old).sectors }
-    requires limits { register.now.registered.limits ≡ layout.now.limits }
+    requires fits { HasRoomFor layout.now register.now (D.view disk.old) }
 
     // A stop at any moment of the call leaves the disk on the current side, with the same register and records.
     ensures any_moment { KeepsSide A layout.now current (D.view disk.old) (D.view disk.new) }
 
     // At `Ok` each stop leaves the image in the other side's slot, with the next epoch. Only that side's root is not open yet.
-    ensures ready { OnOk result ((D.view disk.old).honest → EachIsReady {A = A} (D.view disk.new) layout.now (other_of current) Numbered
-        (epoch + 1, register.now) (fresh layout.now (other_of current))) }
+    ensures ready { OnOk result ((D.view disk.old).honest → HasFreshImage A layout.now (other_of current) (epoch + 1, register.now) (D.view disk.new)) }
 
     // The other side's root is read, and written only where it reads as open. Its first gate is closed, and then each row is
     // written once. A call that fails is the last.
-    ensures calls { OnOk result ((D.view disk.old).honest → HasCalled (D.view disk.old) (D.view disk.new)
-        (image_calls layout.now (other_of current) (D.view disk.old).reads (epoch + 1, register.now))) }
-    ensures some_calls { (D.view disk.old).honest → HasMade (D.view disk.old) (D.view disk.new)
-        (image_calls layout.now (other_of current) (D.view disk.old).reads (epoch + 1, register.now)) }
-
-    // The same on a disk that is not honest, with the root's write or without it.
-    ensures calls_on_any_disk { OnOk result ((was_open : Bool) × HasCalled (D.view disk.old) (D.view disk.new)
-        (image_calls_by layout.now (other_of current) was_open (epoch + 1, register.now))) }
-    ensures some_calls_on_any_disk { (was_open : Bool) × HasMade (D.view disk.old) (D.view disk.new)
-        (image_calls_by layout.now (other_of current) was_open (epoch + 1, register.now)) }
+    ensures made { MakesImageCalls (D.view disk.old) (D.view disk.new) layout.now (other_of current) (epoch + 1, register.now) result }
 
     // It does not give up by itself.
-    ensures fault { IsErrOf result DiskFault → HasFailed (D.view disk.old) (D.view disk.new) }
+    ensures keeps { KeepsDisk (D.view disk.old) (D.view disk.new) (IsErrOf result DiskFault) }
     ensures epochs { IsErrOf result EpochsUsedUp → last_epoch ≤ epoch }
     ensures used_up { last_epoch ≤ epoch → (result ≡ Err EpochsUsedUp) × (disk.new ≡ disk.old) }
-    ensures sectors { (D.view disk.new).sectors ≡ (D.view disk.old).sectors }
-    ensures later { (D.view disk.old).failures ≤ (D.view disk.new).failures }
-    ensures honest { (D.view disk.old).honest → (D.view disk.new).honest }
 {
     if LAST_EPOCH <= epoch {
         return Err(CheckpointError::EpochsUsedUp);

@@ -1,15 +1,10 @@
 //! What holds of the layout of a disk, and of what its images open to, by their definitions alone.
 //! These functions do nothing: calling one gives its clauses.
 
-ghost use Rattle.std.specs.Prelude.{◌≡◌, ◌<◌, ℕ, List, false};
+ghost use Rattle.std.specs.Prelude.{◌≡◌, ℕ, List, false};
 ghost use Rattle.sector_disk.specs.Disk.{IsImageOf};
-ghost use Rattle.sector_disk.specs.Run.{IsTornImage};
-ghost use Rattle.gated_journal.specs.declared.form.Form.{Form};
-ghost use Rattle.gated_journal.specs.Settled.{IsSettled};
 ghost use Rattle.checkpoint.specs.declared.layout.Layout.{Layout as LayoutValue};
-ghost use Rattle.checkpoint.specs.declared.side.Side.{Side as SideValue};
-ghost use Rattle.checkpoint.specs.Layout.{half_at, half_end};
-ghost use Rattle.checkpoint.specs.OnSide.{Base, EachIsOnSide, Held, IsInHalf, IsOnSide, place_after};
+ghost use Rattle.checkpoint.specs.Adding.{MayAddRecords, StaysWithRecords};
 ghost use Rattle.checkpoint.specs.Worked.{AreSideBySide, HasWorkedLimits, IsWorkedDisk};
 
 use sector_disk::Disk;
@@ -34,10 +29,6 @@ pub fn settled<D: Disk>()
 /// Where every image is on a side, `Journal::append` may add to the side's half. An image that has changed nowhere but in
 /// that half is still on the side, with the records that the half then holds.
 pub fn records_added<A: Allocator, D: Disk>()
-    ensures before { (disk : D) (layout : LayoutValue) (side : SideValue) (form : Form) (base : Base) (held : Held A)
-        → EachIsOnSide (D.view disk) layout side form base held → held.1 < half_end layout side
-        → IsSettled (D.view disk) (place_after layout side form base held) base.1.count held.0 }
-    ensures after { (disk : D) (layout : LayoutValue) (side : SideValue) (form : Form) (base : Base) (held more : Held A) (image : List (List ℕ))
-        → EachIsOnSide (D.view disk) layout side form base held → IsTornImage (D.view disk) (half_at layout side) layout.journal image
-        → IsInHalf layout side form base more image → more.1 < half_end layout side → IsOnSide layout side form base more image }
+    ensures before { (disk : D) → MayAddRecords A (D.view disk) }
+    ensures after { (disk : D) → StaysWithRecords A (D.view disk) }
 {}

@@ -1,11 +1,9 @@
 //! The image of a register, written a few rows at a time.
-ghost use Rattle.std.specs.Prelude.{◌≡◌, ◌≤◌, ◌<◌, ◌+◌, ◌^◌, IsErr, IsErrOf, OnOk, length, nat_eq};
-ghost use Rattle.sector_disk.specs.Disk.{HasFailed};
-ghost use Rattle.sector_disk.specs.Run.{HasCalled, HasMade};
-ghost use Rattle.sector_disk.specs.declared.disk.DiskError.TheVariants.{OutOfRange};
+ghost use Rattle.std.specs.Prelude.{◌≡◌, ◌≤◌, ◌<◌, ◌+◌, ◌^◌, OnOk, length, nat_eq};
 ghost use Rattle.image_rows.specs.Rows.{rows_of};
-ghost use Rattle.checkpoint.specs.Progress.{HasFilledNext, IsProgress, next_calls, next_calls_at, written_after};
-ghost use Rattle.checkpoint.specs.Layout.{disk_size, other_of, slot_at};
+ghost use Rattle.checkpoint.specs.Progress.{IsProgress, WritesNext, WritesNextAt, written_after};
+ghost use Rattle.checkpoint.specs.Layout.{other_of};
+ghost use Rattle.checkpoint.specs.Writing.{HasRoomFor};
 
 use crate::{Layout, Side};
 use centre_core::Register;
@@ -66,17 +64,10 @@ fn put_rows<A: Allocator + Clone, D: Disk>(
     requires room { at + length (rows_of epoch register.now) ≤ (D.view disk.old).sectors }
     requires fits { at + length (rows_of epoch register.now) < 2 ^ 64 }
     requires begun { IsProgress epoch register.now progress.old }
-    ensures effect { (D.view disk.old).honest
-        → HasFilledNext (D.view disk.old) (D.view disk.new) at (epoch, register.now) progress.old.written result }
+    ensures rows { WritesNextAt (D.view disk.old) (D.view disk.new) at (epoch, register.now) progress.old.written result }
     ensures written { OnOk result (progress.new.written ≡ written_after epoch register.now progress.old.written) }
     ensures progress { IsProgress epoch register.now progress.new }
     ensures epoch { progress.new.epoch ≡ progress.old.epoch }
-    ensures calls { OnOk result (HasCalled (D.view disk.old) (D.view disk.new) (next_calls_at at (epoch, register.now) progress.old.written)) }
-    ensures some_calls { HasMade (D.view disk.old) (D.view disk.new) (next_calls_at at (epoch, register.now) progress.old.written) }
-    ensures sectors { (D.view disk.new).sectors ≡ (D.view disk.old).sectors }
-    ensures later { (D.view disk.old).failures ≤ (D.view disk.new).failures }
-    ensures fault { IsErr result → HasFailed (D.view disk.old) (D.view disk.new) }
-    ensures in_range { IsErrOf result OutOfRange → ⊥ }
 {
     centre_core::laws::registers(register);
     let mut left = MOST_ROWS;
@@ -104,31 +95,17 @@ pub fn write_next_rows<A: Allocator + Clone, D: Disk>(
     register: &Register<A>,
     progress: &mut Progress,
 ) -> Result<(), DiskError>
-    requires room { disk_size layout.now ≤ (D.view disk.old).sectors }
-    requires limits { register.now.registered.limits ≡ layout.now.limits }
+    requires fits { HasRoomFor layout.now register.now (D.view disk.old) }
     requires begun { IsProgress progress.old.epoch register.now progress.old }
 
     // A stop at any moment of the call leaves all but these rows' sectors as they were. At `Ok` these read as the rows.
-    ensures effect { (D.view disk.old).honest → HasFilledNext (D.view disk.old) (D.view disk.new)
-        (slot_at layout.now (other_of current)) (progress.old.epoch, register.now) progress.old.written result }
+    // Each of these rows is written once, in order. A call that fails is the last.
+    ensures rows { WritesNext (D.view disk.old) (D.view disk.new) layout.now (other_of current) register.now progress.old result }
 
     // Eight more are written, or all that were left.
     ensures written { OnOk result (progress.new.written ≡ written_after progress.old.epoch register.now progress.old.written) }
     ensures progress { IsProgress progress.new.epoch register.now progress.new }
     ensures epoch { progress.new.epoch ≡ progress.old.epoch }
-
-    // Each of these rows is written once, in order. A call that fails is the last.
-    ensures calls { OnOk result (HasCalled (D.view disk.old) (D.view disk.new)
-        (next_calls layout.now (other_of current) (progress.old.epoch, register.now) progress.old.written)) }
-    ensures some_calls { HasMade (D.view disk.old) (D.view disk.new)
-        (next_calls layout.now (other_of current) (progress.old.epoch, register.now) progress.old.written) }
-
-    // It does not give up by itself.
-    ensures fault { IsErr result → HasFailed (D.view disk.old) (D.view disk.new) }
-    ensures in_range { IsErrOf result OutOfRange → ⊥ }
-    ensures sectors { (D.view disk.new).sectors ≡ (D.view disk.old).sectors }
-    ensures later { (D.view disk.old).failures ≤ (D.view disk.new).failures }
-    ensures honest { (D.view disk.old).honest → (D.view disk.new).honest }
 {
     centre_core::laws::registers(register);
     let epoch = progress.epoch;

@@ -1,15 +1,14 @@
 // The register in a side's slot, read back.
-ghost use Rattle.std.specs.Prelude.{◌≡◌, ◌<◌, ◌≤◌, ◌∷◌, [], ℕ, IfOk, IfSome, IsErrOf, IsSome, None, OnOk, Some};
-ghost use Rattle.sector_disk.specs.Disk.{HasFailed, sector};
-ghost use Rattle.sector_disk.specs.Reading.{before_reads};
-ghost use Rattle.sector_disk.specs.Run.{HasCalled, HasMade, HasOnlyRead};
+ghost use Rattle.std.specs.Prelude.{◌≡◌, ◌+◌, ◌<◌, ◌≤◌, ◌∷◌, [], ℕ, IfOk, IfSome, IsErrOf, IsSome, None, OnOk, Some};
+ghost use Rattle.sector_disk.specs.Effects.{OnlyReads};
+ghost use Rattle.sector_disk.specs.Run.{HasMade};
 ghost use Rattle.sector_disk.specs.declared.record.Call.TheVariants.{Read};
 ghost use Rattle.image_rows.specs.Loading.{begun, finished};
-ghost use Rattle.image_rows.specs.Held.{taken_from};
 ghost use Rattle.checkpoint.specs.declared.read_fault.ReadFault.TheVariants.{Damaged, DiskFault, NoMemory};
+ghost use Rattle.checkpoint.specs.Calls.{MakesCalls};
 ghost use Rattle.checkpoint.specs.Layout.{disk_size, slot_at, slot_size};
-ghost use Rattle.checkpoint.specs.OnSide.{IsInSlot};
-ghost use Rattle.checkpoint.specs.Reading.{IsBadSector, IsGoodSoFar, image_reads, read_calls};
+ghost use Rattle.checkpoint.specs.Reading.{HasReadImage, RefusesImage, read_calls};
+ghost use Rattle.checkpoint.specs.Inside.Taken.{HasReadGood, taken_at};
 
 use crate::{Layout, ReadFault, Side};
 use centre_core::Register;
@@ -25,18 +24,11 @@ fn take_row<A: Allocator + Clone, D: Disk>(
     loader: &mut Loader<A>,
 ) -> Result<(), ReadFault>
     requires inside { at < (D.view disk.old).sectors }
-    ensures taken { OnOk result ((D.view disk.old).honest → taken_from loader.old (sector (D.view disk.old).reads at) ≡ Some loader.new) }
-    ensures damaged { (s : ℕ) → IsErrOf result (Damaged s)
-        → (s ≡ at) × ((D.view disk.old).honest → taken_from loader.old (sector (D.view disk.old).reads at) ≡ None) }
-    ensures memory { IsErrOf result NoMemory → HasCalled (D.view disk.old) (D.view disk.new) (Read at ∷ [])
-        × ((D.view disk.old).honest → IsSome (taken_from loader.old (sector (D.view disk.old).reads at))) }
-    ensures only_read { (D.view disk.old).honest → HasOnlyRead (D.view disk.old) (D.view disk.new) }
-    ensures only_reads { before_reads (D.view disk.new).calls ≡ before_reads (D.view disk.old).calls }
-    ensures calls { OnOk result (HasCalled (D.view disk.old) (D.view disk.new) (Read at ∷ [])) }
-    ensures some_calls { HasMade (D.view disk.old) (D.view disk.new) (Read at ∷ []) }
-    ensures fault { IsErrOf result DiskFault → HasFailed (D.view disk.old) (D.view disk.new) }
-    ensures sectors { (D.view disk.new).sectors ≡ (D.view disk.old).sectors }
-    ensures later { (D.view disk.old).failures ≤ (D.view disk.new).failures }
+    ensures taken { OnOk result ((D.view disk.old).honest → taken_at (D.view disk.old) at loader.old ≡ Some loader.new) }
+    ensures damaged { (s : ℕ) → IsErrOf result (Damaged s) → (s ≡ at) × ((D.view disk.old).honest → taken_at (D.view disk.old) at loader.old ≡ None) }
+    ensures memory { IsErrOf result NoMemory → HasReadGood (D.view disk.old) (D.view disk.new) at loader.old }
+    ensures reads { OnlyReads (D.view disk.old) (D.view disk.new) (IsErrOf result DiskFault) }
+    ensures made { MakesCalls (D.view disk.old) (D.view disk.new) (Read at ∷ []) result }
     ensures limits { loader.new.state.registered.limits ≡ loader.old.state.registered.limits }
 {
     let mut row = [0; 512];
@@ -54,21 +46,13 @@ fn take_rows<A: Allocator + Clone, D: Disk>(
     side: Side,
     loader: &mut Loader<A>,
 ) -> Result<(), ReadFault>
-    requires room { disk_size layout.now ≤ (D.view disk.old).sectors }
+    requires inside { slot_at layout.now side + slot_size layout.now < (D.view disk.old).sectors }
     requires begun { loader.old ≡ begun layout.now.limits }
     ensures whole { OnOk result (IsSome (finished loader.new)) }
-    ensures exact { OnOk result ((D.view disk.old).honest → IfSome (finished loader.new) (λ image. IsInSlot layout.now side image (D.view disk.old).reads)) }
-    ensures damaged { (at : ℕ) → IsErrOf result (Damaged at) → (D.view disk.old).honest → IsBadSector layout.now side at (D.view disk.old).reads }
-    ensures on_disk { (at : ℕ) → IsErrOf result (Damaged at) → at < (D.view disk.old).sectors }
-    ensures memory { IsErrOf result NoMemory → (D.view disk.old).honest → IsGoodSoFar layout.now side (D.view disk.old) (D.view disk.new) }
-    ensures only_read { (D.view disk.old).honest → HasOnlyRead (D.view disk.old) (D.view disk.new) }
-    ensures only_reads { before_reads (D.view disk.new).calls ≡ before_reads (D.view disk.old).calls }
-    ensures calls { OnOk result ((D.view disk.old).honest
-        → IfSome (finished loader.new) (λ image. HasCalled (D.view disk.old) (D.view disk.new) (image_reads (slot_at layout.now side) image))) }
+    ensures image { OnOk result (IfSome (finished loader.new) (HasReadImage layout.now side (D.view disk.old) (D.view disk.new))) }
+    ensures refused { RefusesImage layout.now side (D.view disk.old) (D.view disk.new) result }
+    ensures reads { OnlyReads (D.view disk.old) (D.view disk.new) (IsErrOf result DiskFault) }
     ensures some_calls { HasMade (D.view disk.old) (D.view disk.new) (read_calls (slot_at layout.now side) (slot_size layout.now)) }
-    ensures fault { IsErrOf result DiskFault → HasFailed (D.view disk.old) (D.view disk.new) }
-    ensures sectors { (D.view disk.new).sectors ≡ (D.view disk.old).sectors }
-    ensures later { (D.view disk.old).failures ≤ (D.view disk.new).failures }
     ensures limits { loader.new.state.registered.limits ≡ layout.now.limits }
 {
     let first = layout.slot(side);
@@ -97,27 +81,15 @@ pub fn read_image<A: Allocator + Clone, D: Disk>(
 ) -> Result<(u64, Register<A>), ReadFault>
     requires room { disk_size layout.now ≤ (D.view disk.old).sectors }
 
-    // `Ok` returns the image in the slot, and `Damaged` the slot's first bad sector.
-    ensures exact { IfOk result (λ image. (D.view disk.old).honest → IsInSlot layout.now side image (D.view disk.old).reads) }
-    ensures damaged { (at : ℕ) → IsErrOf result (Damaged at) → (D.view disk.old).honest → IsBadSector layout.now side at (D.view disk.old).reads }
-    ensures on_disk { (at : ℕ) → IsErrOf result (Damaged at) → at < (D.view disk.old).sectors }
-    ensures limits { IfOk result (λ image. image.1.registered.limits ≡ layout.now.limits) }
+    // `Ok` returns the image in the slot. Its sectors are read, each once.
+    ensures image { IfOk result (HasReadImage layout.now side (D.view disk.old) (D.view disk.new)) }
 
-    // Out of memory never masks damage: all sectors that were read are good.
-    ensures memory { IsErrOf result NoMemory → (D.view disk.old).honest → IsGoodSoFar layout.now side (D.view disk.old) (D.view disk.new) }
+    // `Damaged` names the slot's first bad sector. Out of memory never masks damage: all sectors that were read are good.
+    ensures refused { RefusesImage layout.now side (D.view disk.old) (D.view disk.new) result }
 
-    // It only reads: the sectors of the slot from the first on, each once. At `Ok` these are the image's.
-    ensures only_read { (D.view disk.old).honest → HasOnlyRead (D.view disk.old) (D.view disk.new) }
-    ensures only_reads { before_reads (D.view disk.new).calls ≡ before_reads (D.view disk.old).calls }
-    ensures honest { (D.view disk.old).honest → (D.view disk.new).honest }
-    ensures calls { IfOk result (λ image. (D.view disk.old).honest
-        → HasCalled (D.view disk.old) (D.view disk.new) (image_reads (slot_at layout.now side) image)) }
+    // It only reads: the sectors of the slot from the first on, each once. It does not give up by itself.
+    ensures reads { OnlyReads (D.view disk.old) (D.view disk.new) (IsErrOf result DiskFault) }
     ensures some_calls { HasMade (D.view disk.old) (D.view disk.new) (read_calls (slot_at layout.now side) (slot_size layout.now)) }
-
-    // It does not give up by itself.
-    ensures fault { IsErrOf result DiskFault → HasFailed (D.view disk.old) (D.view disk.new) }
-    ensures sectors { (D.view disk.new).sectors ≡ (D.view disk.old).sectors }
-    ensures later { (D.view disk.old).failures ≤ (D.view disk.new).failures }
 {
     let mut loader = Loader::new(alloc, layout.limits())?;
     match take_rows(disk, layout, side, &mut loader) {

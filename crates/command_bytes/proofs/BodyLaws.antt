@@ -1,6 +1,8 @@
 -- The two laws of a body, and of a command.
-use Rattle.std.proofs.Common.{◌≡◌, ℕ, zero, suc, ◌^◌, ◌<◌, ◌≤◌, Bool, true, false, cond, eqb, List, ◌++◌, length, Some, None, refl, sym, ap, subst, arith}
+use Rattle.std.proofs.Common.{◌≡◌, ℕ, ◌^◌, ◌<◌, ◌≤◌, Bool, true, false, cond, eqb, List, ◌++◌, length, Some, None, refl, sym, ap, subst, arith}
 use Rattle.std.proofs.lemmas.Bool.{eqb-true, ne_eqb}
+use Rattle.base.proofs.Numbers.{not_zero}
+use Rattle.base.proofs.Options.{some_is}
 use Rattle.registration.specs.declared.rule.Rule.{Rule}
 use Rattle.mailbox.specs.declared.key.Key.{Key}
 use Rattle.centre_core.specs.declared.command.Body.{Body}
@@ -13,7 +15,7 @@ use Rattle.command_bytes.specs.Fields.{◌>>=◌, big, number_at}
 use Rattle.command_bytes.specs.Text.{prefix_text, rule_text, bits_text, tag_of, body_text, command_text, IsCommand}
 use Rattle.command_bytes.specs.Reading.{Read, prefix_at, rule_at, bits_at, area_at, key_at, rule_set_at, rule_clear_at, mm_at, sds_at, sent_at, delete_at, group_sds_at, body_at, first_command}
 use Rattle.command_bytes.proofs.Numbers.{number_small, number_again}
-use Rattle.command_bytes.proofs.Steps.{Takes, takes_both, bind_some, some_is, some_unless, then_again, last_again}
+use Rattle.command_bytes.proofs.Steps.{Takes, takes_both, bind_some, some_unless, then_again, last_again}
 use Rattle.command_bytes.proofs.PartLaws.{number_read, prefix_takes, prefix_again, bits_takes, bits_again, area_takes, area_again, rule_takes, rule_again, key_takes, key_again}
 
 module _ {A : Type 0} where
@@ -58,7 +60,13 @@ module _ {A : Type 0} where
       let pdu : List Bool × List ℕ = c.0 in
       let third = bits_takes area.1 pdu second.0.are c.1 in
       subst (λ (y : Body A × List ℕ). Reads 3 bytes y) (some_is (Mm itsi.0 area.0 pdu.0, pdu.1) x c.2)
-      (record { named = refl; takes = takes_both (big 6 itsi.0) (big 2 area.0 ++ bits_text pdu.0) first (takes_both (big 2 area.0) (bits_text pdu.0) second.0 third.0); fits = (number_small 6 bytes itsi are a.1, second.1, third.1) })
+      (record {
+        named = refl;
+        takes =
+            takes_both (big 6 itsi.0) (big 2 area.0 ++ bits_text pdu.0) first (takes_both (big 2 area.0) (bits_text pdu.0) second.0 third.0);
+        fits =
+            (number_small 6 bytes itsi are a.1, second.1, third.1);
+      })
 
   -- two identities and a PDU
   three_takes : (make : ℕ → ℕ → List Bool → Body A) (tag : ℕ) (bytes : List ℕ) (x : Body A × List ℕ)
@@ -75,7 +83,8 @@ module _ {A : Type 0} where
       let c = bind_some (bits_at other.1) (λ pdu. Some (make source.0 other.0 pdu.0, pdu.1)) x b.2 in
       let pdu : List Bool × List ℕ = c.0 in
       let third = bits_takes other.1 pdu second.are c.1 in
-      let text : Takes bytes (big 6 source.0 ++ (big 6 other.0 ++ bits_text pdu.0)) pdu.1 = takes_both (big 6 source.0) (big 6 other.0 ++ bits_text pdu.0) first (takes_both (big 6 other.0) (bits_text pdu.0) second third.0) in
+      let text : Takes bytes (big 6 source.0 ++ (big 6 other.0 ++ bits_text pdu.0)) pdu.1 =
+      takes_both (big 6 source.0) (big 6 other.0 ++ bits_text pdu.0) first (takes_both (big 6 other.0) (bits_text pdu.0) second third.0) in
       subst (λ (y : Body A × List ℕ). Reads tag bytes y) (some_is (make source.0 other.0 pdu.0, pdu.1) x c.2)
       (record {
         named = (is source.0 other.0 pdu.0).0;
@@ -111,7 +120,8 @@ module _ {A : Type 0} where
   expire_takes bytes x are e = subst (λ (y : Body A × List ℕ). Reads 6 bytes y) (some_is (Expire, bytes) x e) (record { named = refl; takes = record { is = refl; are = are }; fits = tt })
 
   -- a case of the tags
-  on_tag : (n tag : ℕ) (bytes : List ℕ) (x : Body A × List ℕ) (here others : Read (Body A)) → (here ≡ Some x → Reads n bytes x) → (others ≡ Some x → Reads tag bytes x) → cond (eqb tag n) here others ≡ Some x → Reads tag bytes x
+  on_tag : (n tag : ℕ) (bytes : List ℕ) (x : Body A × List ℕ) (here others : Read (Body A)) → (here ≡ Some x → Reads n bytes x) →
+      (others ≡ Some x → Reads tag bytes x) → cond (eqb tag n) here others ≡ Some x → Reads tag bytes x
   on_tag n tag bytes x here others found later e = by (eqb tag n) refl e
     where
       by : (b : Bool) → eqb tag n ≡ b → cond b here others ≡ Some x → Reads tag bytes x
@@ -158,7 +168,8 @@ module _ {A : Type 0} where
       (last_again (λ rule. Some (RuleSet prefix rule.0, rule.1)) (rule_again rule rest fits.1) refl)
   body_again (RuleClear prefix) rest fits = last_again (λ prefix. Some (RuleClear prefix.0, prefix.1)) (prefix_again prefix rest fits) refl
   body_again (Mm itsi area pdu) rest fits =
-      then_again (big 6 itsi) (big 2 area ++ bits_text pdu) rest (number_at 6) (λ itsi. area_at itsi.1 >>= λ area. bits_at area.1 >>= λ pdu. Some (Mm itsi.0 area.0 pdu.0, pdu.1)) itsi (Mm itsi area pdu, rest)
+      then_again (big 6 itsi) (big 2 area ++ bits_text pdu) rest (number_at 6) (λ itsi. area_at itsi.1 >>= λ area. bits_at area.1 >>= λ pdu.
+      Some (Mm itsi.0 area.0 pdu.0, pdu.1)) itsi (Mm itsi area pdu, rest)
       (number_again 6 itsi ((big 2 area ++ bits_text pdu) ++ rest) fits.0)
       (then_again (big 2 area) (bits_text pdu) rest area_at (λ area. bits_at area.1 >>= λ pdu. Some (Mm itsi area.0 pdu.0, pdu.1)) area (Mm itsi area pdu, rest)
       (area_again area (bits_text pdu ++ rest) fits.1)
@@ -221,7 +232,8 @@ module _ {A : Type 0} where
       (takes_both (big 4 sequence.0) (big 4 moment.0 ++ (big 1 (tag_of body.0) ++ body_text body.0)) second
       (takes_both (big 4 moment.0) (big 1 (tag_of body.0) ++ body_text body.0) third
       (takes_both (big 1 (tag_of body.0)) (body_text body.0) named fifth.takes))) in
-      subst (λ (y : Asked A × List ℕ). IsCommand y.0 × (bytes ≡ command_text y.0 ++ y.1) × AreBytes y.1) (some_is (record { station = station.0; sequence = sequence.0; moment = moment.0; body = body.0 }, body.1) (c, rest) h.1) (
+      subst (λ (y : Asked A × List ℕ). IsCommand y.0 × (bytes ≡ command_text y.0 ++ y.1) × AreBytes y.1)
+      (some_is (record { station = station.0; sequence = sequence.0; moment = moment.0; body = body.0 }, body.1) (c, rest) h.1) (
         record {
           station = number_small 2 bytes station are a.1;
           range = record { above = above; sequence = number_small 4 station.1 sequence first.are b.1; moment = number_small 4 sequence.1 moment second.are d.1; body = fifth.fits };
@@ -229,10 +241,6 @@ module _ {A : Type 0} where
         text.is,
         text.are,
       )
-    where
-      not_zero : (n : ℕ) → eqb n 0 ≡ false → 0 < n
-      not_zero zero e = absurd cc
-      not_zero (suc n) e = omega arith
 
   pub command_again : (c : Asked A) (rest : List ℕ) → IsCommand c → first_command (command_text c ++ rest) ≡ Some (c, rest)
   unfolding first_command station_step sequence_step moment_step tag_step body_step command_text big

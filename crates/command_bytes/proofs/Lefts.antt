@@ -1,16 +1,16 @@
 -- Bits from the left that are read are those that were written, and what was written is read again.
-use Rattle.std.proofs.Common.{◌≡◌, ℕ, zero, suc, ◌+◌, ◌-◌, ◌*◌, ◌^◌, ◌<◌, ◌≤◌, Bool, true, false, List, [], ◌∷◌, ◌++◌, length, take, drop, replicate, Some, refl, sym, ap, subst, ◌∙◌, arith}
+use Rattle.std.proofs.Common.{◌≡◌, ℕ, zero, suc, ◌-◌, ◌*◌, ◌^◌, ◌<◌, ◌≤◌, Bool, true, false, List, [], ◌∷◌, ◌++◌, length, take, drop, replicate, Some, refl, sym, ap, subst, ◌∙◌, arith}
 use Rattle.std.specs.Prelude.{not}
 use Rattle.std.specs.List.{list_all}
 use Rattle.std.proofs.lemmas.List.{take_at, drop_at, take-append-drop, length-append, length-drop, length-take, length-replicate}
-use Rattle.std.proofs.lemmas.Nat.{pow-add}
-use Rattle.std.proofs.Math.Nat.{pow-succ'}
+use Rattle.base.proofs.Numbers.{pow_256}
+use Rattle.base.proofs.Options.{some_is}
 use Rattle.identity.specs.Number.{num, number}
 use Rattle.identity.specs.Inside.NumberLaws.{length-num, number-num, num-number, number-lt}
 use Rattle.identity.specs.Packed.{AreBytes}
 use Rattle.command_bytes.specs.Fields.{◌>>=◌, big, left, number_at, unpadded, left_at}
 use Rattle.command_bytes.proofs.Numbers.{number_takes, number_small, number_again}
-use Rattle.command_bytes.proofs.Steps.{Takes, bind_some, some_is, some_where, last_again}
+use Rattle.command_bytes.proofs.Steps.{Takes, bind_some, some_where, last_again}
 
 -- ---- zeros
 
@@ -38,10 +38,6 @@ unpadded_again bits k =
     rw (drop_at bits (replicate k false) (length bits) refl, take_at bits (replicate k false) (length bits) refl, zeros_all k) refl
 
 -- ---- in bytes
-
-pub pow_256 : (w : ℕ) → 256 ^ w ≡ 2 ^ (8 * w)
-pow_256 zero = refl
-pow_256 (suc w) = let e : 8 * suc w ≡ 8 + 8 * w = omega arith in rw (pow-succ' 256 w, e, pow-add 2 8 (8 * w)) (ap (λ (n : ℕ). 256 * n) (pow_256 w))
 
 -- the number that is written
 filled : ℕ → List Bool → List Bool

@@ -1,11 +1,13 @@
 -- Bits in bytes: the prefix of some bytes, what fills the last one, and bytes as one number.
-use Rattle.std.proofs.Common.{◌≡◌, ℕ, zero, suc, ◌+◌, ◌-◌, ◌*◌, ◌/◌, ◌%◌, ◌^◌, ◌<◌, ◌≤◌, Bool, true, false, List, [], ◌∷◌, ◌++◌, length, slice_index, take, drop, replicate, Some, None, refl, sym, ap, subst, ◌∙◌, arith, inl, inr}
+use Rattle.std.proofs.Common.{◌≡◌, ℕ, zero, suc, ◌+◌, ◌-◌, ◌*◌, ◌/◌, ◌%◌, ◌^◌, ◌<◌, ◌≤◌, Bool, true, false, List, [], ◌∷◌, ◌++◌, length, slice_index}
+use Rattle.std.proofs.Common.{take, drop, replicate, Some, None, refl, sym, ap, subst, ◌∙◌, arith, inl, inr}
 use mathlib.Core.Bool.{false≢true}
 use Rattle.std.specs.Prelude.{not, slice_index_or, ◌==◌}
 use Rattle.std.specs.List.{list_all, flat_map}
 use Rattle.std.specs.Int.{byte_at}
 use Rattle.std.proofs.lemmas.Bool.{cases_eq, eq-eqb, ne_eqb, le-ltb, lt-ltb}
 use Rattle.std.proofs.lemmas.List.{append-nil, take_at, drop-take, take-take, length-take}
+use Rattle.base.proofs.Numbers.{pow_256}
 use Rattle.byteorder.specs.Endian.{big_number}
 use Rattle.identity.specs.Number.{num, number}
 use Rattle.identity.specs.Inside.NumberLaws.{length-num, num-append, num-mod, drop-num, zeros_if, zeros_then, num-number}
@@ -14,7 +16,7 @@ use Rattle.identity.proofs.Bytes.{length-bits_of}
 use Rattle.identity.proofs.SameBytes.{bytes_from_bits}
 use Rattle.command_bytes.specs.Fields.{◌>>=◌, big, left, unpadded, number_at, left_at}
 use Rattle.command_bytes.proofs.Numbers.{are-big, big-read}
-use Rattle.command_bytes.proofs.Lefts.{all_zeros, zeros_all, pow_256}
+use Rattle.command_bytes.proofs.Lefts.{all_zeros, zeros_all}
 
 -- ---- bytes as one number
 
@@ -35,7 +37,8 @@ pub number_bits : (w : ℕ) (bytes : List ℕ) → AreBytes bytes → w ≤ leng
 number_bits w bytes are le = sym (bits_of-big w (big_number w bytes)) ∙ ap bits_of (big-read w bytes are le)
 
 -- bytes that hold just these bits and zeros are these bits from the left
-pub is_left : (w : ℕ) (bytes : List ℕ) (bits : List Bool) → AreBytes bytes → length bytes ≡ w → length bits ≤ 8 * w → bits_of bytes ≡ bits ++ replicate (8 * w - length bits) false → bytes ≡ left w bits
+pub is_left : (w : ℕ) (bytes : List ℕ) (bits : List Bool) → AreBytes bytes → length bytes ≡ w → length bits ≤ 8 * w →
+    bits_of bytes ≡ bits ++ replicate (8 * w - length bits) false → bytes ≡ left w bits
 unfolding left
 is_left w bytes bits are long le is =
     let filled = bits ++ replicate (8 * w - length bits) false in
@@ -65,14 +68,17 @@ drop_on zero (b ∷ ahead) following le = absurd (omega arith)
 drop_on (suc n) (b ∷ ahead) following le = drop_on n ahead following (omega arith) ∙ drop_as (n - length ahead) (suc n - suc (length ahead)) following (omega arith)
 
 -- the bits after the first ones, where these end in the last byte
-last_bits : (bytes : List ℕ) (len : ℕ) → 0 < length bytes → len ≤ 8 * length bytes → 8 * length bytes < len + 8 → drop len (bits_of bytes) ≡ num (8 * length bytes - len) (slice_index bytes (length bytes - 1))
+last_bits : (bytes : List ℕ) (len : ℕ) → 0 < length bytes → len ≤ 8 * length bytes → 8 * length bytes < len + 8 →
+    drop len (bits_of bytes) ≡ num (8 * length bytes - len) (slice_index bytes (length bytes - 1))
 unfolding bits_of
 last_bits [] len some room tight = absurd (omega arith)
 last_bits (b ∷ []) len some room tight =
     ap (drop len) (append-nil (num 8 b)) ∙ drop-num len 8 b (omega arith)
 last_bits (b ∷ c ∷ bytes) len some room tight =
     let long = length-num 8 b in
-    drop_on len (num 8 b) (flat_map (num 8) (c ∷ bytes)) (omega arith) ∙ drop_as (len - length (num 8 b)) (len - 8) (flat_map (num 8) (c ∷ bytes)) (omega (arith, long)) ∙ last_bits (c ∷ bytes) (len - 8) (omega arith) (omega arith) (omega arith)
+    drop_on len (num 8 b) (flat_map (num 8) (c ∷ bytes)) (omega arith) ∙
+    drop_as (len - length (num 8 b)) (len - 8) (flat_map (num 8) (c ∷ bytes)) (omega (arith, long)) ∙
+    last_bits (c ∷ bytes) (len - 8) (omega arith) (omega arith) (omega arith)
     ∙ (λ i. num (less i) (slice_index (b ∷ c ∷ bytes) (last i)))
   where
     less : 8 * length (c ∷ bytes) - (len - 8) ≡ 8 * length (b ∷ c ∷ bytes) - len
@@ -122,7 +128,8 @@ left_cut w n bytes are le = rw (le-ltb (length bytes) w le) (ap (λ (l : List Bo
 pub left_unfilled : (w n : ℕ) (bytes : List ℕ) → AreBytes bytes → w ≤ length bytes → list_all not (drop n (bits_of (take w bytes))) ≡ false → left_at w n bytes ≡ None
 left_unfilled w n bytes are le e = left_cut w n bytes are le ∙ rw e refl
 
-pub left_found : (w n : ℕ) (bytes : List ℕ) → AreBytes bytes → w ≤ length bytes → list_all not (drop n (bits_of (take w bytes))) ≡ true → left_at w n bytes ≡ Some (take n (bits_of (take w bytes)), drop w bytes)
+pub left_found : (w n : ℕ) (bytes : List ℕ) → AreBytes bytes → w ≤ length bytes → list_all not (drop n (bits_of (take w bytes))) ≡ true →
+    left_at w n bytes ≡ Some (take n (bits_of (take w bytes)), drop w bytes)
 left_found w n bytes are le e = left_cut w n bytes are le ∙ rw e refl
 
 pub power : (v k : ℕ) → k < 8 → (v % (1 * 2 ^ k % 18446744073709551616) == 0) ≡ (v % 2 ^ k == 0)

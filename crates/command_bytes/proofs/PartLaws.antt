@@ -1,6 +1,7 @@
 -- The two laws of each part of a command: what is read of it is its text, in its range, and its text is read again.
 use Rattle.std.proofs.Common.{◌≡◌, ℕ, zero, suc, ◌^◌, ◌<◌, ◌≤◌, Bool, true, false, cond, leb, ltb, eqb, List, ◌++◌, length, Some, None, refl, sym, ap, subst, ◌∙◌, arith}
 use Rattle.std.proofs.lemmas.Bool.{eqb-true, leb-true, ltb-true, le-leb, lt-ltb}
+use Rattle.base.proofs.Options.{some_is}
 use Rattle.mm_pdus.specs.declared.lifetime.Lifetime.{Lifetime}
 use Rattle.mm_pdus.specs.declared.lifetime.Lifetime.TheVariants.{NotNeeded, NextItsiAttach, NotAllowedAtNextItsiAttach, NextLocationUpdate}
 use Rattle.mm_pdus.specs.Values.{lifetime_number, lifetime_of}
@@ -17,7 +18,7 @@ use Rattle.command_bytes.specs.Text.{prefix_text, rule_text, bits_text, kind_num
 use Rattle.command_bytes.specs.Reading.{Read, prefix_at, bits_at, area_at, lifetime_at, rule_at, kind_of, key_at}
 use Rattle.command_bytes.proofs.Numbers.{number_takes, number_small, number_again}
 use Rattle.command_bytes.proofs.Lefts.{left_takes, left_again}
-use Rattle.command_bytes.proofs.Steps.{Takes, takes_both, bind_some, some_is, some_where, then_again, last_again}
+use Rattle.command_bytes.proofs.Steps.{Takes, takes_both, bind_some, some_where, then_again, last_again}
 
 -- ---- a number
 
@@ -63,9 +64,11 @@ bits_takes bytes x are e =
 pub bits_again : (bits : List Bool) (rest : List ℕ) → length bits ≤ most_bits → bits_at (bits_text bits ++ rest) ≡ Some (bits, rest)
 unfolding bits_at
 bits_again bits rest few =
-    then_again (big 2 (length bits)) (left (bytes_for (length bits)) bits) rest (number_at 2) (λ len. cond (leb len.0 most_bits) (left_at (bytes_for len.0) len.0 len.1) None) (length bits) (bits, rest)
+    then_again (big 2 (length bits)) (left (bytes_for (length bits)) bits) rest (number_at 2)
+    (λ len. cond (leb len.0 most_bits) (left_at (bytes_for len.0) len.0 len.1) None) (length bits) (bits, rest)
     (number_again 2 (length bits) (left (bytes_for (length bits)) bits ++ rest) (omega (arith, few)))
-    (ap (λ (b : Bool). cond b (left_at (bytes_for (length bits)) (length bits) (left (bytes_for (length bits)) bits ++ rest)) None) (le-leb _ _ few) ∙ left_again (bytes_for (length bits)) bits rest (omega arith))
+    (ap (λ (b : Bool). cond b (left_at (bytes_for (length bits)) (length bits) (left (bytes_for (length bits)) bits ++ rest)) None) (le-leb _ _ few) ∙
+    left_again (bytes_for (length bits)) bits rest (omega arith))
 
 -- ---- an area
 
@@ -212,7 +215,8 @@ key_takes bytes x are e =
     let f = bind_some (kind_of number.0) (kind_step destination.0 source.0 reference.0 number.1) x d.2 in
     let kind : Kind = f.0 in
     let named : Takes reference.1 (big 1 (kind_number kind)) number.1 = subst (λ (n : ℕ). Takes reference.1 (big 1 n) number.1) (sym (kind_is number.0 kind f.1)) fourth in
-    subst (λ (y : Key × List ℕ). Takes bytes (key_text y.0) y.1 × KeyInRange y.0) (some_is (record { destination = destination.0; source = source.0; reference = reference.0; kind = kind }, number.1) x f.2) (
+    subst (λ (y : Key × List ℕ). Takes bytes (key_text y.0) y.1 × KeyInRange y.0)
+    (some_is (record { destination = destination.0; source = source.0; reference = reference.0; kind = kind }, number.1) x f.2) (
       takes_both (big 6 destination.0) (big 6 source.0 ++ big 1 reference.0 ++ big 1 (kind_number kind)) first
           (takes_both (big 6 source.0) (big 1 reference.0 ++ big 1 (kind_number kind)) second
           (takes_both (big 1 reference.0) (big 1 (kind_number kind)) third named)),

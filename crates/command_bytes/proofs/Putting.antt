@@ -1,8 +1,9 @@
 -- Fields as they are written.
-use Rattle.std.proofs.Common.{◌≡◌, ℕ, zero, suc, get_or, ◌+◌, ◌-◌, ◌*◌, ◌<◌, ◌≤◌, Bool, false, List, [], ◌∷◌, ◌++◌, length, take, drop, replicate, refl, sym, ap, subst, ◌∙◌, arith}
+use Rattle.std.proofs.Common.{◌≡◌, ℕ, get_or, ◌+◌, ◌-◌, ◌*◌, ◌<◌, ◌≤◌, Bool, false, List, [], ◌∷◌, ◌++◌, length, take, drop, replicate, refl, sym, ap, subst, ◌∙◌, arith}
 use Rattle.std.specs.Int.{bytes_high_first}
 use Rattle.std.proofs.Math.Nat.{mod-eq_of_lt}
 use Rattle.std.proofs.lemmas.List.{take_all, take-append-drop, length-drop, ext_get_or, get_or-drop, length-replicate}
+use Rattle.base.proofs.Lists.{zeros_get}
 use Rattle.identity.specs.Packed.{AreBytes, IsPacked, bits_of}
 use Rattle.identity.specs.Path.{left_aligned}
 use Rattle.identity.proofs.Bytes.{length-bits_of}
@@ -14,13 +15,9 @@ pub prefix_bits : (prefix : List Bool) → big 6 (left_aligned prefix) ≡ left 
 unfolding left left_aligned
 prefix_bits prefix = refl
 
-all_false : (n i : ℕ) → get_or (replicate n false) i false ≡ false
-all_false zero i = refl
-all_false (suc n) zero = refl
-all_false (suc n) (suc i) = all_false n i
-
 -- bits as they are packed are bits from the left
-pub packed_left : (bytes : List ℕ) (bits : List Bool) → AreBytes bytes → IsPacked bytes (length bits) → take (length bits) (bits_of bytes) ≡ bits → (bytes ≡ left (bytes_for (length bits)) bits) × (length bytes ≡ bytes_for (length bits))
+pub packed_left : (bytes : List ℕ) (bits : List Bool) → AreBytes bytes → IsPacked bytes (length bits) → take (length bits) (bits_of bytes) ≡ bits →
+    (bytes ≡ left (bytes_for (length bits)) bits) × (length bytes ≡ bytes_for (length bits))
 packed_left bytes bits are packed is = (is_left (bytes_for (length bits)) bytes bits are long (omega (arith, packed.room, long)) whole, long)
   where
     long : length bytes ≡ bytes_for (length bits)
@@ -28,8 +25,16 @@ packed_left bytes bits are packed is = (is_left (bytes_for (length bits)) bytes 
 
     rest : drop (length bits) (bits_of bytes) ≡ replicate (8 * bytes_for (length bits) - length bits) false
     rest =
-        let len : length (drop (length bits) (bits_of bytes)) ≡ length (replicate (8 * bytes_for (length bits) - length bits) false) = omega (arith, length-drop (length bits) (bits_of bytes), length-bits_of bytes, length-replicate (8 * bytes_for (length bits) - length bits) false, long) in
-        ext_get_or false (drop (length bits) (bits_of bytes)) (replicate (8 * bytes_for (length bits) - length bits) false) len (λ i lt. rw get_or-drop (packed.fill (length bits + i) (omega arith)) ∙ sym (all_false (8 * bytes_for (length bits) - length bits) i))
+        let len : length (drop (length bits) (bits_of bytes)) ≡ length (replicate (8 * bytes_for (length bits) - length bits) false) =
+        omega (
+          arith,
+          length-drop (length bits) (bits_of bytes),
+          length-bits_of bytes,
+          length-replicate (8 * bytes_for (length bits) - length bits) false,
+          long,
+        ) in
+        ext_get_or false (drop (length bits) (bits_of bytes)) (replicate (8 * bytes_for (length bits) - length bits) false) len
+        (λ i lt. rw get_or-drop (packed.fill (length bits + i) (omega arith)) ∙ sym (zeros_get (8 * bytes_for (length bits) - length bits) i))
 
     whole : bits_of bytes ≡ bits ++ replicate (8 * bytes_for (length bits) - length bits) false
     whole = sym (take-append-drop (length bits) (bits_of bytes)) ∙ ap (λ (l : List Bool). l ++ drop (length bits) (bits_of bytes)) is ∙ ap (λ (l : List Bool). bits ++ l) rest

@@ -68,8 +68,5 @@ module _ {A : Type 0} where
   pub command_short : (c : Asked A) → IsCommand c → length (command_text c) ≤ longest
   command_short c fits = omega (arith, command_size c, body_short c.body fits.range.body)
 
-  pub command_long : (c : Asked A) → 11 ≤ length (command_text c)
-  command_long c = omega (arith, command_size c)
-
 pub nothing : (l : List ℕ) → l ≡ l ++ []
 nothing l = sym (append-nil l)

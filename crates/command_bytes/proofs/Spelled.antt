@@ -2,12 +2,12 @@
 use Rattle.std.proofs.Common.{◌≡◌, ℕ, ◌≤◌, List, [], ◌∷◌, ◌++◌, length, Option, Some, None, refl, sym, ap, subst, ◌∙◌}
 use Rattle.std.specs.Prelude.{IsSome, IfSome, IfNone}
 use Rattle.std.proofs.lemmas.List.{append-nil}
+use Rattle.base.proofs.Options.{some_is}
 use Rattle.centre_core.specs.Asked.{Asked}
 use Rattle.centre_core.specs.Ranges.{pdu_of}
 use Rattle.identity.specs.Packed.{AreBytes}
 use Rattle.command_bytes.specs.Reading.{Read, first_command, whole, command_of, pdu_in}
 use Rattle.command_bytes.specs.Text.{IsCommand, Spells, command_text, longest}
-use Rattle.command_bytes.proofs.Steps.{some_is}
 use Rattle.command_bytes.proofs.Sizes.{command_short}
 use Rattle.command_bytes.proofs.BodyLaws.{command_takes, command_again}
 

@@ -1,11 +1,12 @@
 -- The stations that words name.
-use Rattle.std.proofs.Common.{◌≡◌, ◌∙◌, ◌++◌, ◌∷◌, ◌+◌, ◌<◌, ◌^◌, ◌&&◌, [], ℕ, zero, suc, Bool, true, false, List, Option, Some, None, Err, arith, refl, ap, sym, true≢false}
+use Rattle.std.proofs.Common.{◌≡◌, ◌∙◌, ◌++◌, ◌∷◌, ◌+◌, ◌<◌, ◌^◌, ◌&&◌, [], ℕ, zero, suc, Bool, true, false, List, Option, Some, None, Err, arith, refl, ap, sym}
 use Rattle.std.proofs.Common.{length, map, take, get_or, lt-ltb, ltb-true, nat_lt}
 use Rattle.std.specs.Borrow.{Bor}
 use Rattle.std.specs.Char.{digit_value}
 use Rattle.std.specs.List.{list_all}
 use Rattle.std.specs.Str.Parse.{AllDigits, IsNumeral, ParsesUnsigned, digits_value, without_leading_plus}
 use Rattle.std.proofs.lemmas.List.{map-append, take_more}
+use Rattle.base.proofs.Bools.{both_true}
 use Rattle.clap.specs.Words.{Text}
 use Rattle.command_line.specs.Asked.{both, is_numeral, is_station, station_in, stations_in}
 
@@ -75,10 +76,6 @@ station_lacks (word ∷ words) (suc i) d within this = lacks_after (station_in w
 digits_pass : (ds : List ℕ) → AllDigits 10 ds → list_all (λ d. nat_lt (digit_value d) 10) ds ≡ true
 digits_pass [] h = refl
 digits_pass (d ∷ ds) h = rw (lt-ltb (digit_value d) 10 h.0) (digits_pass ds h.1)
-
-both_true : (a b : Bool) → (a && b) ≡ true → (a ≡ true) × (b ≡ true)
-both_true true b e = (refl, e)
-both_true false b e = absurd (true≢false (sym e))
 
 digits_from : (ds : List ℕ) → list_all (λ d. nat_lt (digit_value d) 10) ds ≡ true → AllDigits 10 ds
 digits_from [] e = tt

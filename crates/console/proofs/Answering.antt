@@ -42,7 +42,8 @@ only_lists_are_long (answer.ServiceOutage line) short long = absurd (long tt)
 only_lists_are_long (answer.QueryOutage line word) short long = absurd (long tt)
 
 module _ {A W : Type 0} where
-  query_outage : (rules : Rules A W) (n : ℕ) (s t : W) (line : Line A) (a : Answer A) → is_list_answer a ≡ true → AnswersReading rules n s line a t → AnswersReading rules n s line (answer.QueryOutage n Memory) t
+  query_outage : (rules : Rules A W) (n : ℕ) (s t : W) (line : Line A) (a : Answer A) → is_list_answer a ≡ true → AnswersReading rules n s line a t →
+      AnswersReading rules n s line (answer.QueryOutage n Memory) t
   query_outage rules n s t Silent a list given = absurd (true≢false (sym list ∙ ap is_list_answer given.0))
   query_outage rules n s t (Bad fault) a list given = absurd (true≢false (sym list ∙ ap is_list_answer given.0))
   query_outage rules n s t (Mark word) a list given = absurd (true≢false (sym list ∙ ap is_list_answer given.0))
@@ -98,7 +99,8 @@ module _ {A W : Type 0} where
   query_outage rules n s t (Print l) (answer.Queried query_answer) list given = absurd given
 
   -- what is given in place of an answer is an answer
-  pub is_given_for : (rules : Rules A W) (speaker : Speaker) (n : ℕ) (s t : W) (line : List ℕ) (a given : Answer A) → IsGivenFor n a given → Answers rules speaker n s line a t → Answers rules speaker n s line given t
+  pub is_given_for : (rules : Rules A W) (speaker : Speaker) (n : ℕ) (s t : W) (line : List ℕ) (a given : Answer A) → IsGivenFor n a given →
+      Answers rules speaker n s line a t → Answers rules speaker n s line given t
   is_given_for rules speaker n s t line a given stands answers = elim stands [
     | inl same ↦ subst (λ (b : Answer A). Answers rules speaker n s line b t) (sym same) answers
     | inr list ↦ subst (λ (b : Answer A). Answers rules speaker n s line b t) (sym list.1) (query_outage rules n s t (heard speaker line) a list.0 answers)

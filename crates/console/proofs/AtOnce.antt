@@ -1,5 +1,6 @@
 -- Lines that are done and answered together.
-use Rattle.std.proofs.Common.{◌≡◌, inl, ℕ, zero, suc, ◌+◌, ◌-◌, ◌<◌, ◌≤◌, ◌||◌, List, [], ◌∷◌, ◌++◌, length, take, drop, get_or, refl, true, true≢false, sym, ◌∙◌, ap, subst, arith, append_assoc, length-append, Bool, false, Result, Ok, Err}
+use Rattle.std.proofs.Common.{◌≡◌, inl, ℕ, zero, suc, ◌+◌, ◌-◌, ◌<◌, ◌≤◌, ◌||◌, List, [], ◌∷◌, ◌++◌, length, take, drop, get_or, refl, true}
+use Rattle.std.proofs.Common.{true≢false, sym, ◌∙◌, ap, subst, arith, append_assoc, length-append, Bool, false, Result, Ok, Err}
 use Rattle.std.proofs.lemmas.List.Concat.{flat_map-append}
 use Rattle.std.proofs.lemmas.List.Elements.{All-nil}
 use Rattle.std.proofs.lemmas.List.Folds.{list_any-append}
@@ -76,7 +77,8 @@ module _ {A : Type 0} where
   next_for (d ∷ cs) (q ∷ rs) zero c r lt same = refl
   next_for (d ∷ cs) (q ∷ rs) (suc k) c r lt same = ap (λ l. answer_for d q ∷ l) (next_for cs rs k c r (omega (arith, lt)) (omega (arith, same)))
 
-  pub answers_more : (cs : List (Command A)) (rs : List (Result (Reply A) Outage)) (k : ℕ) (c : Command A) (r : Result (Reply A) Outage) → k < length cs → length rs ≡ length cs → c ≡ get_or cs k c → r ≡ get_or rs k r →
+  pub answers_more : (cs : List (Command A)) (rs : List (Result (Reply A) Outage)) (k : ℕ) (c : Command A) (r : Result (Reply A) Outage) →
+      k < length cs → length rs ≡ length cs → c ≡ get_or cs k c → r ≡ get_or rs k r →
       answers_for (take (k + 1) cs) (take (k + 1) rs) ≡ answers_for (take k cs) (take k rs) ++ answer_for c r ∷ []
   answers_more cs rs k c r lt same here there =
       let next : k + 1 ≡ suc k = omega arith in
@@ -97,12 +99,14 @@ module _ {A : Type 0} where
 
 module _ {A W : Type 0} (rules : Rules A W) (speaker : Speaker) where
   -- the answer by what the desk returns
-  one_answer : (n : ℕ) (s t : W) (given : List ℕ) (c : Command A) (r : Result (Reply A) Outage) → heard speaker given ≡ line.Apply c → rules.applies s c r t → Answers rules speaker n s given (answer_for c r) t
+  one_answer : (n : ℕ) (s t : W) (given : List ℕ) (c : Command A) (r : Result (Reply A) Outage) → heard speaker given ≡ line.Apply c →
+      rules.applies s c r t → Answers rules speaker n s given (answer_for c r) t
   one_answer n s t given c (Ok reply) is applies = subst (λ (l : Line A). AnswersReading rules n s l (answer_for c (Ok reply)) t) (sym is) (refl, applies)
   one_answer n s t given c (Err word) is applies = subst (λ (l : Line A). AnswersReading rules n s l (answer_for c (Err word)) t) (sym is) (refl, inl applies)
 
   -- those to lines that are done together
-  pub answered_together : (n : ℕ) (s t : W) (given : List (List ℕ)) (cs : List (Command A)) (rs : List (Result (Reply A) Outage)) → AreRead speaker given cs → AreApplied rules s cs rs t → Dialogue rules speaker n s given (answers_for cs rs) t
+  pub answered_together : (n : ℕ) (s t : W) (given : List (List ℕ)) (cs : List (Command A)) (rs : List (Result (Reply A) Outage)) →
+      AreRead speaker given cs → AreApplied rules s cs rs t → Dialogue rules speaker n s given (answers_for cs rs) t
   answered_together n s t [] [] [] is done = done
   answered_together n s t [] [] (r ∷ rs) is done = absurd done
   answered_together n s t [] (c ∷ cs) rs is done = absurd is
@@ -111,7 +115,8 @@ module _ {A W : Type 0} (rules : Rules A W) (speaker : Speaker) where
   answered_together n s t (l ∷ given) (c ∷ cs) (r ∷ rs) is done = (done.0, one_answer (n + 1) s done.0 l c r is.0 done.1, answered_together (n + 1) done.0 t given cs rs is.1 done.2)
 
   -- one dialogue after another
-  pub both_dialogues : (n k : ℕ) (s mid t : W) (given more : List (List ℕ)) (xs ys : List (Answer A)) → k ≡ n + length given → Dialogue rules speaker n s given xs mid → Dialogue rules speaker k mid more ys t → Dialogue rules speaker n s (given ++ more) (xs ++ ys) t
+  pub both_dialogues : (n k : ℕ) (s mid t : W) (given more : List (List ℕ)) (xs ys : List (Answer A)) → k ≡ n + length given →
+      Dialogue rules speaker n s given xs mid → Dialogue rules speaker k mid more ys t → Dialogue rules speaker n s (given ++ more) (xs ++ ys) t
   both_dialogues n k s mid t [] more [] ys at first second =
       let here : k ≡ n = omega (arith, at) in
       subst (λ (q : ℕ × W). Dialogue rules speaker q.0 q.1 more ys t) (λ i. (here i, first i)) second
@@ -134,7 +139,8 @@ module _ {A : Type 0} where
   as_many_answers rules s t (c ∷ cs) [] done = absurd done
   as_many_answers rules s t (c ∷ cs) (r ∷ rs) done = ap suc (as_many_answers rules done.0 t cs rs done.2)
 
-  read_more : (speaker : Speaker) (given : List (List ℕ)) (cs : List (Command A)) (l : List ℕ) (c : Command A) → AreRead speaker given cs → heard speaker l ≡ line.Apply c → AreRead speaker (given ++ l ∷ []) (cs ++ c ∷ [])
+  read_more : (speaker : Speaker) (given : List (List ℕ)) (cs : List (Command A)) (l : List ℕ) (c : Command A) → AreRead speaker given cs →
+      heard speaker l ≡ line.Apply c → AreRead speaker (given ++ l ∷ []) (cs ++ c ∷ [])
   read_more speaker [] [] l c is one = (one, tt)
   read_more speaker [] (d ∷ cs) l c is one = absurd is
   read_more speaker (k ∷ given) [] l c is one = absurd is
@@ -145,7 +151,8 @@ module _ {A : Type 0} where
   no_lines speaker = record { given = []; split = λ rest. refl; read = tt }
 
   -- one line more
-  pub line_more : (speaker : Speaker) (bytes run : List ℕ) (cs : List (Command A)) (c : Command A) → AreLines speaker bytes cs → HasNoEnd run → heard speaker (strip_carriage_return run) ≡ line.Apply c → AreLines speaker (bytes ++ (run ++ 10 ∷ [])) (cs ++ c ∷ [])
+  pub line_more : (speaker : Speaker) (bytes run : List ℕ) (cs : List (Command A)) (c : Command A) → AreLines speaker bytes cs → HasNoEnd run →
+      heard speaker (strip_carriage_return run) ≡ line.Apply c → AreLines speaker (bytes ++ (run ++ 10 ∷ [])) (cs ++ c ∷ [])
   line_more speaker bytes run cs c so plain is = record {
     given = so.given ++ strip_carriage_return run ∷ [];
     split = λ rest.
@@ -166,7 +173,8 @@ module _ {A W : Type 0} (rules : Rules A W) (start : Start W) (begun : Sent) (ta
       both_dialogues rules start.speaker 0 (length i.done) start.world old.world t i.done so.given i.answers (answers_for cs rs) (omega arith) i.each
       (answered_together rules start.speaker (length i.done) old.world t so.given cs rs read done)
 
-  split_more : (old : Reached A W) (i : IsGoing rules start begun taken old) (so : AreLines old.speaker bytes cs) → i.line ≡ [] → (rest : List ℕ) → lines ((taken ++ bytes) ++ rest) ≡ (i.done ++ so.given) ++ lines rest
+  split_more : (old : Reached A W) (i : IsGoing rules start begun taken old) (so : AreLines old.speaker bytes cs) → i.line ≡ [] → (rest : List ℕ) →
+      lines ((taken ++ bytes) ++ rest) ≡ (i.done ++ so.given) ++ lines rest
   split_more old i so none rest =
       ap lines (append_assoc taken bytes rest)
       ∙ i.split (bytes ++ rest)
@@ -187,7 +195,8 @@ module _ {A W : Type 0} (rules : Rules A W) (start : Start W) (begun : Sent) (ta
     split = split_more old i so none;
     no_end = All-nil (λ b. (b == 10) ≡ false);
     each = more_answers old new.world i so done;
-    passed = passes_by begun new.written [] (texts i.answers ++ texts (answers_for cs rs)) [] [] (texts (i.answers ++ answers_for cs rs)) [] refl (sym (flat_map-append text i.answers (answers_for cs rs))) refl
+    passed = passes_by begun new.written [] (texts i.answers ++ texts (answers_for cs rs)) [] [] (texts (i.answers ++ answers_for cs rs)) [] refl
+        (sym (flat_map-append text i.answers (answers_for cs rs))) refl
         (passes_on begun old.written new.written [] (texts i.answers) [] (texts (answers_for cs rs)) [] i.passed passed);
     trouble = troubled ∙ ap (λ b. b || list_any is_trouble (answers_for cs rs)) i.trouble ∙ sym (list_any-append is_trouble i.answers (answers_for cs rs));
     counted = counts ∙ omega (arith, i.counted, as_many old.speaker so.given cs so.read, length-append i.done so.given);

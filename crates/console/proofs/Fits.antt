@@ -24,7 +24,8 @@ done_fits sequence number word pdu small low short few =
     let first = decimal_fits sequence small in
     let second = decimal_fits number low in
     let most = pdu_fits pdu few in
-    let whole : length (decimal sequence ++ (word ++ decimal number ++ codes " " ++ pdu_text pdu) ++ codes "\n") ≡ length (decimal sequence) + (length word + length (decimal number) + 1 + length (pdu_text pdu)) + 1 = grind (arith, length-append) in
+    let whole : length (decimal sequence ++ (word ++ decimal number ++ codes " " ++ pdu_text pdu) ++ codes "\n") ≡ length (decimal sequence) +
+    (length word + length (decimal number) + 1 + length (pdu_text pdu)) + 1 = grind (arith, length-append) in
     omega (arith, first, second, most, whole)
 
 pub unknown_fits : (itsi : ℕ) → itsi < 2 ^ 48 → length (codes "where " ++ identity_text itsi ++ codes " unknown\n") ≤ answer_room

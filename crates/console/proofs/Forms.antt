@@ -1,46 +1,61 @@
--- What words say.
-use Rattle.std.proofs.Common.{◌≡◌, ℕ, ◌<◌, Bool, true, false, List, [], ◌∷◌, length, take, Option, Some, None, Result, Ok, Err, refl, sym, subst, arith}
-use Rattle.std.specs.Prelude.{IfOk, codes, nat_le, if◌then◌else◌}
+-- Forms, and what words of them say.
+use Rattle.std.proofs.Common.{◌≡◌, ℕ, ◌<◌, Bool, true, false, List, [], ◌∷◌, length, take, Option, Some, None, Result, Ok, Err, refl, sym, ◌∙◌, ap, subst, arith}
+use Rattle.std.specs.Prelude.{◌==◌, IfSome, IsOkAnd, IsTrue, nat_le, nat_lt, if◌then◌else◌}
+use Rattle.std.proofs.lemmas.Bool.Decides.{nat_tests}
+use Rattle.std.specs.List.{list_all}
+use Rattle.std.specs.Option.{option_map}
 use Rattle.std.specs.Result.{result_ok}
-use Rattle.std.specs.Str.{bytes_eq}
+use Rattle.base.proofs.Bools.{first_true, second_true}
 use Rattle.identity.specs.Path.{Path}
-use Rattle.identity.specs.IdentityText.{reading_identity, reading_prefix}
 use Rattle.identity.specs.declared.fault.Fault.{Fault}
+use Rattle.identity.specs.declared.fault.Fault.TheVariants.{OutOfRange, NoMemory}
+use Rattle.identity.specs.NumberText.{judged}
+use Rattle.identity.specs.BitsText.{digit_bits, bits_form, reading_bits}
 use Rattle.identity.proofs.BitsTexts.{reading_bits_only}
 use Rattle.registration.specs.Rule.{Rule}
 use Rattle.mailbox.specs.declared.key.Key.{Key}
+use Rattle.centre_core.specs.Memory.{is_long}
 use Rattle.centre_core.specs.Ranges.{IsShort, pdu_of}
-use Rattle.identity.specs.NumberText.{judged}
-use Rattle.identity.specs.BitsText.{digit_bits, bits_form, reading_bits}
-use Rattle.identity.specs.declared.fault.Fault.TheVariants.{OutOfRange, NoMemory}
 use Rattle.centre_core.specs.declared.command.Body.{Body}
 use Rattle.centre_core.specs.declared.command.Body.TheVariants.{RuleSet, RuleClear, Mm, Sds, GroupSds, Sent, Expire, Delete}
-use Rattle.console.specs.Reading.{of_words, command_line, sequence_of, GivesPdu, area_in, key_in, rule_in, saying, mm_body, sds_body, group_sds_body, rule_body, body_in}
 use Rattle.console.specs.declared.body.Head.{Head}
-use Rattle.console.specs.declared.line.LineFault.{LineFault}
-use Rattle.console.specs.declared.line.LineFault.TheVariants.{Syntax, Value}
-use Rattle.console.specs.declared.line.Line.TheVariants.{Bad}
+use Rattle.console.specs.declared.form.Form.{Form}
+use Rattle.console.specs.declared.form.BodyForm.{BodyForm}
+use Rattle.console.specs.declared.form.BodyForm.TheVariants as body_form
+use Rattle.console.specs.declared.line.Line.TheVariants.{Bad, Apply}
+use Rattle.console.specs.declared.line.LineFault.TheVariants.{Syntax}
+use Rattle.console.specs.Forms.{Row, forms, form_in, keyword, word}
+use Rattle.console.specs.Reading.{identity_in, area_in, prefix_in, key_in, rule_in, pdu_in, mm_body, sds_body, group_sds_body, rule_body, body_in}
+use Rattle.console.specs.Reading.{command_of, line_of, by_form, of_words, sequence_of, GivesLongPdu}
+
+-- ---- which form
+
+-- a row of one keyword, or the rows after it
+pub chain : (P : Option Form → Type 0) (b : Bool) (form : Form) (rest : Option Form) → (b ≡ true → P (Some form)) → P rest → P (if b then Some form else rest)
+chain P true form rest first others = first refl
+chain P false form rest first others = others
+
+another_count : (count n : ℕ) → 8 < n → nat_le count 8 ≡ true → (count == n) ≡ false
+another_count count n many few = grind (arith, many, few)
+
+no_row : (rows : List Row) (name : List ℕ) (n : ℕ) → 8 < n → list_all (λ row. nat_le row.count 8) rows ≡ true → form_in rows name n ≡ None
+no_row [] name n many few = refl
+no_row (row ∷ rows) name n many few =
+    let other = another_count row.count n many (first_true (nat_le row.count 8) (list_all (λ row. nat_le row.count 8) rows) few) in
+    rw other (no_row rows name n many (second_true (nat_le row.count 8) (list_all (λ row. nat_le row.count 8) rows) few))
 
 -- more words than any form has
 pub many_words : {A : Type 0} (station : ℕ) (ws : List (List ℕ)) → 8 < length ws → of_words {A = A} station ws ≡ Bad Syntax
-many_words station [] many = absurd (omega (arith, many))
-many_words station (a ∷ []) many = absurd (omega (arith, many))
-many_words station (a ∷ b ∷ []) many = absurd (omega (arith, many))
-many_words station (a ∷ b ∷ c ∷ []) many = absurd (omega (arith, many))
-many_words station (a ∷ b ∷ c ∷ d ∷ []) many = absurd (omega (arith, many))
-many_words station (a ∷ b ∷ c ∷ d ∷ e ∷ []) many = absurd (omega (arith, many))
-many_words station (a ∷ b ∷ c ∷ d ∷ e ∷ f ∷ []) many = absurd (omega (arith, many))
-many_words station (a ∷ b ∷ c ∷ d ∷ e ∷ f ∷ g ∷ []) many = absurd (omega (arith, many))
-many_words station (a ∷ b ∷ c ∷ d ∷ e ∷ f ∷ g ∷ h ∷ []) many = absurd (omega (arith, many))
-many_words station (a ∷ b ∷ c ∷ d ∷ e ∷ f ∷ g ∷ h ∷ i ∷ ws) many = refl
+many_words {A = A} station ws many = ap (λ form. by_form {A = A} station form ws) (no_row forms (keyword ws) (length ws) many refl)
 
--- a PDU that is read has at most 2,048 bits
+-- ---- PDUs of at most 2,048 bits
+
 bits_short : (text : List ℕ) (read : Result (List Bool) Fault) → reading_bits text ≡ read → IsShort (result_ok read)
 bits_short text (Ok bits) e = (reading_bits_only bits text e).0
 bits_short text (Err fault) e = tt
 
-abbrev HasShortPdu : {A : Type 0} → Result (Body A) LineFault → Type 0
-HasShortPdu said = IfOk said (λ body. IsShort (pdu_of body))
+abbrev HasShortPdu : {A : Type 0} → Option (Body A) → Type 0
+HasShortPdu said = IfSome said (λ body. IsShort (pdu_of body))
 
 module _ (A : Type 0) where
   mm_short : (itsi area : Option ℕ) (pdu : Option (List Bool)) → IsShort pdu → HasShortPdu (mm_body {A = A} itsi area pdu)
@@ -66,60 +81,43 @@ module _ (A : Type 0) where
   rule_short (Some prefix) None = tt
   rule_short (Some prefix) (Some rule) = tt
 
-  clear_short : (prefix : Option Path) → HasShortPdu {A = A} (saying RuleClear prefix)
+  clear_short : (prefix : Option Path) → HasShortPdu {A = A} (option_map RuleClear prefix)
   clear_short None = tt
   clear_short (Some prefix) = tt
 
-  sent_short : (key : Option Key) → HasShortPdu {A = A} (saying Sent key)
+  sent_short : (key : Option Key) → HasShortPdu {A = A} (option_map Sent key)
   sent_short None = tt
   sent_short (Some key) = tt
 
-  delete_short : (key : Option Key) → HasShortPdu {A = A} (saying Delete key)
+  delete_short : (key : Option Key) → HasShortPdu {A = A} (option_map Delete key)
   delete_short None = tt
   delete_short (Some key) = tt
 
-  either_short : (b : Bool) (x y : Result (Body A) LineFault) → HasShortPdu x → HasShortPdu y → HasShortPdu (if b then x else y)
-  either_short true x y h k = h
-  either_short false x y h k = k
+  body_short : (form : BodyForm) (ws : List (List ℕ)) → HasShortPdu (body_in {A = A} form ws)
+  body_short body_form.RuleSet ws = rule_short (prefix_in (word 3 ws)) (rule_in (word 4 ws) (word 5 ws) (word 6 ws) (word 7 ws))
+  body_short body_form.RuleClear ws = clear_short (prefix_in (word 3 ws))
+  body_short body_form.Mm ws = mm_short (identity_in (word 3 ws)) (area_in (word 4 ws)) (pdu_in (word 5 ws)) (bits_short (word 5 ws) (reading_bits (word 5 ws)) refl)
+  body_short body_form.Sds ws = sds_short (identity_in (word 3 ws)) (identity_in (word 4 ws)) (pdu_in (word 5 ws)) (bits_short (word 5 ws) (reading_bits (word 5 ws)) refl)
+  body_short body_form.GroupSds ws = group_sds_short (identity_in (word 3 ws)) (identity_in (word 4 ws)) (pdu_in (word 5 ws)) (bits_short (word 5 ws) (reading_bits (word 5 ws)) refl)
+  body_short body_form.Sent ws = sent_short (key_in (word 3 ws) (word 4 ws) (word 5 ws) (word 6 ws))
+  body_short body_form.Expire ws = tt
+  body_short body_form.Delete ws = delete_short (key_in (word 3 ws) (word 4 ws) (word 5 ws) (word 6 ws))
 
-  pub body_short : (name : List ℕ) (words : List (List ℕ)) → HasShortPdu (body_in {A = A} name words)
-  body_short name [] = either_short (bytes_eq name (codes "expire")) (Ok Expire) (Err Syntax) tt tt
-  body_short name (prefix ∷ []) = either_short (bytes_eq name (codes "unrule")) (saying RuleClear (result_ok (reading_prefix prefix))) (Err Syntax) (clear_short (result_ok (reading_prefix prefix))) tt
-  body_short name (a ∷ b ∷ []) = tt
-  body_short name (a ∷ b ∷ c ∷ []) =
-      let short : IsShort (result_ok (reading_bits c)) = bits_short c (reading_bits c) refl in
-      either_short (bytes_eq name (codes "mm")) (mm_body (result_ok (reading_identity a)) (area_in b) (result_ok (reading_bits c))) _ (mm_short (result_ok (reading_identity a)) (area_in b) (result_ok (reading_bits c)) short)
-      (either_short (bytes_eq name (codes "sds")) (sds_body (result_ok (reading_identity a)) (result_ok (reading_identity b)) (result_ok (reading_bits c))) _ (sds_short (result_ok (reading_identity a)) (result_ok (reading_identity b)) (result_ok (reading_bits c)) short)
-      (either_short (bytes_eq name (codes "gsds")) (group_sds_body (result_ok (reading_identity a)) (result_ok (reading_identity b)) (result_ok (reading_bits c))) (Err Syntax) (group_sds_short (result_ok (reading_identity a)) (result_ok (reading_identity b)) (result_ok (reading_bits c)) short) tt))
-  body_short name (a ∷ b ∷ c ∷ d ∷ []) =
-      either_short (bytes_eq name (codes "sent")) (saying Sent (key_in a b c d)) _ (sent_short (key_in a b c d)) (either_short (bytes_eq name (codes "delete")) (saying Delete (key_in a b c d)) (Err Syntax) (delete_short (key_in a b c d)) tt)
-  body_short name (a ∷ b ∷ c ∷ d ∷ e ∷ []) =
-      either_short (bytes_eq name (codes "rule")) (rule_body (result_ok (reading_prefix a)) (rule_in b c d e)) (Err Syntax) (rule_short (result_ok (reading_prefix a)) (rule_in b c d e)) tt
-  body_short name (a ∷ b ∷ c ∷ d ∷ e ∷ f ∷ ws) = tt
+  -- a body that words of a form say
+  pub said_short : (form : BodyForm) (ws : List (List ℕ)) (said : Option (Body A)) (body : Body A) → said ≡ body_in form ws → said ≡ Some body → IsShort (pdu_of body)
+  said_short form ws said body same is = subst (λ (o : Option (Body A)). HasShortPdu o) (sym same ∙ is) (body_short form ws)
 
-  -- a body that three words say
-  pub three_short : (name a b c : List ℕ) (body : Result (Body A) LineFault) → body ≡ body_in name (a ∷ b ∷ c ∷ []) → HasShortPdu body
-  three_short name a b c body same = subst HasShortPdu (sym same) (body_short name (a ∷ b ∷ c ∷ []))
+-- ---- out of memory
 
-  -- a body that four words say
-  pub four_short : (name a b c d : List ℕ) (body : Result (Body A) LineFault) → body ≡ body_in name (a ∷ b ∷ c ∷ d ∷ []) → HasShortPdu body
-  four_short name a b c d body same = subst HasShortPdu (sym same) (body_short name (a ∷ b ∷ c ∷ d ∷ []))
+-- a body with a PDU of more than 64 bits, after a head
+pub unread : {A : Type 0} (station : ℕ) (head : Head) (body : Option (Body A)) → GivesLongPdu body → sequence_of (line_of Apply (command_of station (Some head) body)) ≡ Some head.sequence
+unread station head (Some body) long = rw long refl
+unread station head None long = absurd long
 
--- a body with a PDU, after a head and without one
-pub unread : {A : Type 0} (station : ℕ) (head : Head) (body : Result (Body A) LineFault) → GivesPdu body → sequence_of (command_line station (Some head) body) ≡ Some head.sequence
-unread station head (Ok (RuleSet prefix rule)) pdu = absurd pdu
-unread station head (Ok (RuleClear prefix)) pdu = absurd pdu
-unread station head (Ok (Mm itsi area bits)) pdu = refl
-unread station head (Ok (Sds source destination bits)) pdu = refl
-unread station head (Ok (GroupSds source group bits)) pdu = refl
-unread station head (Ok (Sent key)) pdu = absurd pdu
-unread station head (Ok Expire) pdu = absurd pdu
-unread station head (Ok (Delete key)) pdu = absurd pdu
-unread station head (Err fault) pdu = absurd pdu
-
-pub headless : {A : Type 0} (station : ℕ) (body : Result (Body A) LineFault) → GivesPdu body → command_line station None body ≡ Bad Value
-headless station (Ok body) pdu = refl
-headless station (Err fault) pdu = absurd pdu
+-- bits that are read, and are more than 64
+pub long_read : (read : Result (List Bool) Fault) → IsOkAnd read (λ bits. 64 < length bits) → IsTrue (is_long (result_ok read))
+long_read (Ok bits) long = let more : nat_lt 64 (length bits) ≡ true = grind (arith, nat_tests, long) in more
+long_read (Err fault) long = absurd long
 
 within_judged : (within : Bool) (bits : List Bool) → (if within then Ok bits else Err OutOfRange) ≡ Err NoMemory → ⊥
 within_judged true bits refused = cc

@@ -137,7 +137,8 @@ module _ {A W : Type 0} (rules : Rules A W) (start : Start W) (begun : Sent) whe
   -- the bytes before a line feed, whose answer is written
   pub goes_on : (taken : List ℕ) (old new : Reached A W) (run : List ℕ) (a : Answer A) → HasNoEnd run → new.speaker ≡ old.speaker →
       Sends old.progress old.written a new.progress new.written →
-      ((line : List ℕ) → Holds old.progress.current.bytes.items old.progress.current.long line → Answers rules old.speaker (old.progress.lines + 1) old.world (strip_carriage_return (line ++ run)) a new.world) →
+      ((line : List ℕ) → Holds old.progress.current.bytes.items old.progress.current.long line →
+      Answers rules old.speaker (old.progress.lines + 1) old.world (strip_carriage_return (line ++ run)) a new.world) →
       IsGoing rules start begun taken old → IsGoing rules start begun (taken ++ (run ++ 10 ∷ [])) new
   goes_on taken old new run a plain same sent answers i =
       going_line taken old new run sent.0 i plain same sent.3
@@ -146,7 +147,8 @@ module _ {A W : Type 0} (rules : Rules A W) (start : Start W) (begun : Sent) whe
   -- the same, where some of it is left
   pub stops_within : (taken rest : List ℕ) (old : Reached A W) (fault : RunFault) (new : Sent) (t : W) (run : List ℕ) (a : Answer A) → HasNoEnd run →
       SendsPart old.progress.lines old.written a new →
-      ((line : List ℕ) → Holds old.progress.current.bytes.items old.progress.current.long line → Answers rules old.speaker (old.progress.lines + 1) old.world (strip_carriage_return (line ++ run)) a t) →
+      ((line : List ℕ) → Holds old.progress.current.bytes.items old.progress.current.long line →
+      Answers rules old.speaker (old.progress.lines + 1) old.world (strip_carriage_return (line ++ run)) a t) →
       IsGoing rules start begun taken old →
       HasEnded rules start begun (taken ++ (run ++ 10 ∷ []) ++ rest) new t (Err fault)
   stops_within taken rest old fault new t run a plain sent answers i = let line = strip_carriage_return (i.line ++ run) in

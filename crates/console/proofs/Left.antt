@@ -1,5 +1,5 @@
 -- Words that are cut by the marks of the spaces.
-use Rattle.std.proofs.Common.{◌≡◌, ℕ, ◌+◌, ◌-◌, ◌<◌, ◌≤◌, inl, inr, false, List, [], ◌∷◌, length, take, drop, get_or, Option, Some, refl, sym, ap, ◌∙◌, arith}
+use Rattle.std.proofs.Common.{◌≡◌, ℕ, ◌+◌, ◌-◌, ◌<◌, ◌≤◌, inl, inr, false, List, [], ◌∷◌, length, take, drop, get_or, Some, sym, ap, ◌∙◌, arith}
 use Rattle.std.specs.Prelude.{◌==◌}
 use Rattle.std.specs.Int.{bit_at}
 use Rattle.std.proofs.lemmas.Bool.Decides.{eqb_tells}
@@ -8,12 +8,8 @@ use Rattle.std.proofs.lemmas.List.{take_all, drop-drop, get_or-drop, get_or-take
 use Rattle.std.proofs.lemmas.Option.{slice_get-get_or}
 use Rattle.std.proofs.lemmas.Grind.{common_steps}
 use Rattle.console.specs.Inside.Marks.{AreSpaces}
-use Rattle.console.specs.declared.body.Head.{Head}
-use Rattle.console.specs.declared.line.Line.TheVariants.{Bad}
-use Rattle.console.specs.declared.line.LineFault.TheVariants.{Syntax}
-use Rattle.console.specs.Reading.{Lacks, words, head_in, body_in, command_line, of_words}
-use Rattle.console.specs.Inside.Left.{of_named}
-use Rattle.console.proofs.Splits.{IsNonempty, is_space, split_nonempty, words_none, words_some}
+use Rattle.console.specs.Reading.{Lacks, words}
+use Rattle.console.proofs.Splits.{words_none, words_some}
 
 no_space : (b : ℕ) → (b ≡ 32 → ⊥) → (b == 32) ≡ false
 no_space b other = elim (eqb_tells b 32) [
@@ -50,22 +46,3 @@ module _ (line : List ℕ) (start marks : ℕ) (within : start ≤ length line) 
       let more : start + (at - start + 1) ≡ at + 1 = omega (arith, low) in
       words_some (drop start line) (at - start) inside none (slice_get-get_or (drop start line) (at - start) 0 inside ∙ ap Some space)
       ∙ ap (λ rest. take (at - start) (drop start line) ∷ words rest) (drop-drop (at - start + 1) start line ∙ ap (λ i. drop i line) more)
-
-module _ {A : Type 0} (station : ℕ) where
-  -- a command has a third word
-  named : (head : Option Head) (words : List (List ℕ)) (some : IsNonempty words) (first second : List ℕ) → head ≡ head_in first second →
-      of_named {A = A} station head words ≡ of_words station (first ∷ second ∷ words)
-  named head words some first second here = rw (here, some.2) refl
-
-  pub command_words : (line rest first second : List ℕ) (left right : List (List ℕ)) (head : Option Head) → words line ≡ first ∷ left → left ≡ second ∷ right → right ≡ words rest → head ≡ head_in first second →
-      of_named {A = A} station head (words rest) ≡ of_words station (words line)
-  command_words line rest first second left right head one two three here =
-      let whole : words line ≡ first ∷ second ∷ words rest = cc in
-      rw whole (named head (words rest) (split_nonempty is_space rest) first second here)
-
-  -- six words after the name are too many
-  too_many : (head : Option Head) (name a b c d e : List ℕ) (rest : List (List ℕ)) → IsNonempty rest → Bad Syntax ≡ command_line {A = A} station head (body_in name (a ∷ b ∷ c ∷ d ∷ e ∷ rest))
-  too_many head name a b c d e rest some = rw some.2 refl
-
-  pub six_words : (head : Option Head) (name line a b c d e rest : List ℕ) → words line ≡ a ∷ b ∷ c ∷ d ∷ e ∷ words rest → Bad Syntax ≡ command_line {A = A} station head (body_in name (words line))
-  six_words head name line a b c d e rest whole = rw whole (too_many head name a b c d e (words rest) (split_nonempty is_space rest))

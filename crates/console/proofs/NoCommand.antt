@@ -98,7 +98,10 @@ has_k [] word lacks = true≢false (lacks 3 0 (omega arith))
 has_k (b ∷ before) word lacks = has_k before word (λ k d low. lacks (suc k) d (omega (arith, low)))
 
 pub no_command : {A : Type 0} → MarkCompletesNoCommand A
-no_command station before word c e =
-    let only = only_commands station (before ++ codes "mark " ++ word) c e in
-    let words : AllLackK (decimal c.sequence ∷ decimal c.moment ∷ only.spelt.0) = (decimal_k c.sequence (omega (arith, only.in_range.sequence)), (decimal_k c.moment (omega (arith, only.in_range.moment)), body_k c.body only.spelt.0 only.in_range.body only.spelt.1)) in
+no_command {A = A} station before word c e =
+    let only = only_commands A station (before ++ codes "mark " ++ word) c e in
+    let words : AllLackK (decimal c.sequence ∷ decimal c.moment ∷ only.spelt.0) = (
+      decimal_k c.sequence (omega (arith, only.in_range.sequence)),
+      (decimal_k c.moment (omega (arith, only.in_range.moment)), body_k c.body only.spelt.0 only.in_range.body only.spelt.1),
+    ) in
     has_k before word (subst (Lacks 107) (sym only.spelt.2) (spaced_k (decimal c.sequence ∷ decimal c.moment ∷ only.spelt.0) words))

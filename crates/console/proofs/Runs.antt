@@ -20,7 +20,8 @@ module _ (A : Type 0) {W : Type 0} (rules : Rules A W) (speaker : Speaker) (s t 
       (subst (λ (i : Option (List ℕ)). Runs i held now) gives run))
 
 -- of what the desk stands for and the writer holds after the run
-pub run_left : (A : Type 0) {W : Type 0} (rules : Rules A W) (speaker : Speaker) (s : W) (r : Result Ran RunFault) {given held : Option (List ℕ)} (t : W) (now : Option (List ℕ)) {t' : W} {now' : Option (List ℕ)} →
+pub run_left : (A : Type 0) {W : Type 0} (rules : Rules A W) (speaker : Speaker) (s : W) (r : Result Ran RunFault) {given held : Option (List ℕ)}
+    (t : W) (now : Option (List ℕ)) {t' : W} {now' : Option (List ℕ)} →
     t ≡ t' → now ≡ now' → Runs A rules speaker s t r given held now → Runs A rules speaker s t' r given held now'
 run_left A rules speaker s r {given = given} {held = held} t now {now' = now'} stands leaves run =
     subst (λ u. Runs A rules speaker s u r given held now') stands (subst (λ (n : Option (List ℕ)). Runs A rules speaker s t r given held n) leaves run)

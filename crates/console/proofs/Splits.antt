@@ -54,7 +54,8 @@ words_some line at inside none here =
 
 -- what a line feed ends, after bytes that end no line
 pub line_ended : (taken line run rest : List ℕ) (done : List (List ℕ)) → All (λ b. is_feed b ≡ false) line → All (λ b. is_feed b ≡ false) run →
-    lines (taken ++ ((run ++ 10 ∷ []) ++ rest)) ≡ done ++ lines (line ++ ((run ++ 10 ∷ []) ++ rest)) → lines (taken ++ (run ++ 10 ∷ []) ++ rest) ≡ done ++ strip_carriage_return (line ++ run) ∷ lines rest
+    lines (taken ++ ((run ++ 10 ∷ []) ++ rest)) ≡ done ++ lines (line ++ ((run ++ 10 ∷ []) ++ rest)) →
+    lines (taken ++ (run ++ 10 ∷ []) ++ rest) ≡ done ++ strip_carriage_return (line ++ run) ∷ lines rest
 line_ended taken line run rest done none plain split =
     ap lines (append_assoc taken (run ++ 10 ∷ []) rest) ∙ split
     ∙ ap (λ l. done ++ lines l) (ap (λ end. line ++ end) (append_assoc run (10 ∷ []) rest) ∙ sym (append_assoc line run (10 ∷ rest)))

@@ -4,6 +4,7 @@ use Rattle.std.proofs.lemmas.Bool.{true≢false}
 use Rattle.std.proofs.lemmas.List.Elements.{All-nil, All-cons}
 use Rattle.std.specs.Prelude.{All}
 use Rattle.std.specs.List.{list_any}
+use Rattle.base.proofs.Bools.{first_false, second_false}
 use Rattle.centre_core.specs.declared.command.Command.{Command}
 use Rattle.centre_core.specs.declared.query.Query.{Query}
 use Rattle.desk.specs.declared.outage.Outage.{Outage}
@@ -19,7 +20,6 @@ use Rattle.console.specs.Answer.{is_outage}
 use Rattle.console.specs.Reading.{Speaker, heard}
 use Rattle.console.specs.Dialogue.{AnswersReading, AnswersCommand, AnswersQuery, AnswersListing, AnswersService, Dialogue, LacksPdu}
 use Rattle.console.specs.Stored.{SaysBroken, BrokenAfterDevice, RegisterAtDevice, StoredAsRegister}
-use Rattle.console.proofs.Wholes.{or_left, or_right}
 
 -- what is broken is not sound
 not_both : {X : Type 0} (s : Stored) → s.broken ≡ true → s.broken ≡ false → X
@@ -62,7 +62,8 @@ module _ {A : Type 0} where
   abbrev pub Stays : Answer A → Stored → Stored → Type 0
   Stays a s t = SaysBroken a × (t ≡ s)
 
-  command_outage : (s t : Stored) (c : Command A) (sequence : ℕ) (word : Outage) → s.broken ≡ true → StoreApplies {A = A} {B = A} s c (Err word) t ⊎ LacksPdu s c word t → Stays (answer.CommandOutage sequence word) s t
+  command_outage : (s t : Stored) (c : Command A) (sequence : ℕ) (word : Outage) → s.broken ≡ true → StoreApplies {A = A} {B = A} s c (Err word) t ⊎
+      LacksPdu s c word t → Stays (answer.CommandOutage sequence word) s t
   command_outage s t c sequence word broken why = elim why [
     | inl says ↦ let b = refused s t c word broken says in (inl b.0, b.1)
     | inr lacks ↦ (inr lacks.1, lacks.2)
@@ -142,7 +143,8 @@ module _ {A : Type 0} where
   on_reading n s t (Print l) a broken given = on_listing n s t l a broken given
 
   -- from a broken desk on
-  stays_broken : (speaker : Speaker) (n : ℕ) (s t : Stored) (given : List (List ℕ)) (answers : List (Answer A)) → s.broken ≡ true → Dialogue of_store speaker n s given answers t → All SaysBroken answers
+  stays_broken : (speaker : Speaker) (n : ℕ) (s t : Stored) (given : List (List ℕ)) (answers : List (Answer A)) → s.broken ≡ true →
+      Dialogue of_store speaker n s given answers t → All SaysBroken answers
   stays_broken speaker n s t [] [] broken each = All-nil SaysBroken
   stays_broken speaker n s t [] (a ∷ answers) broken each = absurd each
   stays_broken speaker n s t (line ∷ given) [] broken each = absurd each
@@ -251,6 +253,6 @@ module _ {A : Type 0} where
   as_register speaker n s t (line ∷ given) [] each calm = absurd each
   as_register speaker n s t (line ∷ given) (a ∷ answers) each calm = (
     each.0.register,
-    as_reading (n + 1) s each.0 (heard speaker line) a each.1 (or_left (is_outage a) (list_any is_outage answers) calm),
-    as_register speaker (n + 1) each.0 t given answers each.2 (or_right (is_outage a) (list_any is_outage answers) calm),
+    as_reading (n + 1) s each.0 (heard speaker line) a each.1 (first_false (is_outage a) (list_any is_outage answers) calm),
+    as_register speaker (n + 1) each.0 t given answers each.2 (second_false (is_outage a) (list_any is_outage answers) calm),
   )

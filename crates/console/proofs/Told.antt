@@ -14,7 +14,8 @@ use Rattle.console.specs.declared.answer.Answer.{Answer}
 use Rattle.console.specs.Answer.{text, texts, is_trouble}
 use Rattle.desk.specs.Rules.{Rules}
 use Rattle.console.specs.Dialogue.{Dialogue}
-use Rattle.console.specs.Events.{Event, Read, ReadFailed, Answered, Wrote, WriteFailed, bytes_read, text_answered, bytes_written, read_by, answered_by, written_by, read_failures, write_failures, OnlyAnswers}
+use Rattle.console.specs.Events.{Event, Read, ReadFailed, Answered, Wrote, WriteFailed, bytes_read, text_answered, bytes_written, read_by}
+use Rattle.console.specs.Events.{answered_by, written_by, read_failures, write_failures, OnlyAnswers}
 use Rattle.console.specs.Failures.{failures_reported}
 use Rattle.console.specs.Told.{EndsFor, EndsSince, GaveFirst, Tells}
 use Rattle.console.specs.Runs.{Start, HasRun}
@@ -125,7 +126,8 @@ flush_fails (Ok x) old new waiting one is counted kept = tt
 flush_fails {T = T} (Err e) old new waiting one is counted kept = failure_passes old new waiting one (failed_once T e old.failures new.failures is counted) kept
 
 -- an answer is given
-pub answer_passes : (old new : Sent) (waiting text : List ℕ) → new.events ≡ old.events ++ Answered text ∷ [] → new.failures ≡ old.failures → new.bytes ≡ old.bytes → Passes old new waiting text (waiting ++ text)
+pub answer_passes : (old new : Sent) (waiting text : List ℕ) → new.events ≡ old.events ++ Answered text ∷ [] → new.failures ≡ old.failures →
+    new.bytes ≡ old.bytes → Passes old new waiting text (waiting ++ text)
 answer_passes old new waiting text one none same = record {
   events = Answered text ∷ [];
   follows = (one, λ held known. same ∙ known ∙ ap Some (sym (append-nil held)), omega (arith, none));
@@ -222,7 +224,8 @@ module _ {A W : Type 0} (rules : Rules A W) (start : Start W) (begun : Sent) whe
       )
 
   -- by other names for the input and the result
-  pub told_by : (input input' : List ℕ) (now : Sent) (t : W) (r r' : Result Ran RunFault) → input ≡ input' → r ≡ r' → HasEnded rules start begun input now t r → HasEnded rules start begun input' now t r'
+  pub told_by : (input input' : List ℕ) (now : Sent) (t : W) (r r' : Result Ran RunFault) → input ≡ input' → r ≡ r' →
+      HasEnded rules start begun input now t r → HasEnded rules start begun input' now t r'
   told_by input input' now t r r' same ends so = subst (λ (q : List ℕ × Result Ran RunFault). HasEnded rules start begun q.0 now t q.1) (λ j. (same j, ends j)) so
 
   -- if the bytes of the writer are known
@@ -271,7 +274,8 @@ module _ (turns : ℕ) (base old : List Event) (count : ℕ) (so : HasCalled bas
   reported r counted = omega (arith, counted, follows.2)
 
   -- the reader failed
-  pub ends_failed : (new : List Event) (e : RunFault) → new ≡ old ++ ReadFailed ∷ [] → count < turns → e ≡ fault.Read → now.failures ≡ begun.failures → EndsSince turns base new begun.events now.events (Err e)
+  pub ends_failed : (new : List Event) (e : RunFault) → new ≡ old ++ ReadFailed ∷ [] → count < turns → e ≡ fault.Read →
+      now.failures ≡ begun.failures → EndsSince turns base new begun.events now.events (Err e)
   ends_failed new e one some is none = subst (λ (f : RunFault). EndsSince turns base new begun.events now.events (Err f)) (sym is) (
     so.calls ++ ReadFailed ∷ [],
     events,

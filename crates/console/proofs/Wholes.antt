@@ -1,8 +1,9 @@
 -- Each line has an answer, and without outage words one answer.
-use Rattle.std.proofs.Common.{◌≡◌, ℕ, ◌+◌, Bool, true, false, List, [], ◌∷◌, ◌++◌, ◌||◌, length, map, refl, sym, ◌∙◌, ap, subst, arith, append_assoc, inl}
+use Rattle.std.proofs.Common.{◌≡◌, ℕ, ◌+◌, Bool, true, false, List, [], ◌∷◌, ◌++◌, length, map, refl, sym, ◌∙◌, ap, subst, arith, append_assoc, inl}
 use Rattle.std.proofs.lemmas.Bool.{true≢false}
 use Rattle.std.proofs.lemmas.List.Concat.{flat_map-append}
 use Rattle.std.specs.List.{list_any}
+use Rattle.base.proofs.Bools.{first_false, second_false}
 use Rattle.centre_core.specs.State.{State}
 use Rattle.centre_core.specs.Step.{step}
 use Rattle.centre_core.specs.Queries.{answer_to}
@@ -23,14 +24,6 @@ use Rattle.desk.specs.OfRegister.{of_register}
 use Rattle.desk.specs.OfStore.{Stored, of_store}
 use Rattle.desk.specs.declared.outage.Outage.TheVariants.{Broken}
 use Rattle.console.specs.Dialogue.{AnswersReading, AnswersCommand, AnswersQuery, AnswersListing, AnswersService, Answers, Dialogue, CutOffIsPrefix, OneText}
-
-pub or_left : (a b : Bool) → (a || b) ≡ false → a ≡ false
-or_left true b h = h
-or_left false b h = refl
-
-pub or_right : (a b : Bool) → (a || b) ≡ false → b ≡ false
-or_right true b h = absurd (true≢false h)
-or_right false b h = h
 
 module _ {A : Type 0} where
   -- a line has an answer
@@ -119,7 +112,8 @@ module _ {A : Type 0} where
   replied_same : (p q : ℕ) (x y : Reply A) → p ≡ q → x ≡ y → answer.Replied p x ≡ answer.Replied q y
   replied_same p q x y e f = ap (λ (n : ℕ). answer.Replied n x) e ∙ ap (λ (r : Reply A). answer.Replied q r) f
 
-  one_command : (s : State) (c : Command A) (a b : Answer A) (t u : State) → AnswersCommand of_register s c a t → AnswersCommand of_register s c b u → is_outage a ≡ false → is_outage b ≡ false → Same a b t u
+  one_command : (s : State) (c : Command A) (a b : Answer A) (t u : State) → AnswersCommand of_register s c a t → AnswersCommand of_register s c b u →
+      is_outage a ≡ false → is_outage b ≡ false → Same a b t u
   one_command s c (answer.Replied p x) (answer.Replied q y) t u f h calm still =
       let both : (t, x) ≡ (u, y) = f.1 ∙ sym h.1 in
       (replied_same p q x y (f.0 ∙ sym h.0) (ap (λ (r : State × Reply A). r.1) both), ap (λ (r : State × Reply A). r.0) both)
@@ -146,7 +140,8 @@ module _ {A : Type 0} where
   one_command s c (answer.Listed lines) b t u f h calm still = absurd f
   one_command s c (answer.QueryOutage n w) b t u f h calm still = absurd f
 
-  one_query : (n : ℕ) (s : State) (q : Query) (a b : Answer A) (t u : State) → AnswersQuery of_register n s q a t → AnswersQuery of_register n s q b u → is_outage a ≡ false → is_outage b ≡ false → Same a b t u
+  one_query : (n : ℕ) (s : State) (q : Query) (a b : Answer A) (t u : State) → AnswersQuery of_register n s q a t →
+      AnswersQuery of_register n s q b u → is_outage a ≡ false → is_outage b ≡ false → Same a b t u
   one_query n s q (answer.Queried x) (answer.Queried y) t u f h calm still = (ap (λ (query_answer : QueryAnswer A). answer.Queried query_answer) (f.1 ∙ sym h.1), f.0 ∙ sym h.0)
   one_query n s q (answer.Queried x) (answer.QueryOutage m w) t u f h calm still = absurd (true≢false still)
   one_query n s q (answer.Queried x) answer.Quiet t u f h calm still = absurd h
@@ -171,7 +166,8 @@ module _ {A : Type 0} where
   one_query n s q (answer.CommandOutage p w) b t u f h calm still = absurd f
   one_query n s q (answer.Listed lines) b t u f h calm still = absurd f
 
-  one_listing : (n : ℕ) (s : State) (l : Listing) (a b : Answer A) (t u : State) → AnswersListing of_register n s l a t → AnswersListing of_register n s l b u → is_outage a ≡ false → is_outage b ≡ false → Same a b t u
+  one_listing : (n : ℕ) (s : State) (l : Listing) (a b : Answer A) (t u : State) → AnswersListing of_register n s l a t →
+      AnswersListing of_register n s l b u → is_outage a ≡ false → is_outage b ≡ false → Same a b t u
   one_listing n s l (answer.Listed x) (answer.Listed y) t u f h calm still =
       let lines : x ≡ y = f.2 ∙ ap (λ (r : State). listing_text r l) (f.1.1 ∙ sym h.1.1) ∙ sym h.2 in
       (ap (λ (text : List ℕ). answer.Listed text) lines, f.1.0 ∙ sym h.1.0)
@@ -230,7 +226,8 @@ module _ {A : Type 0} where
   one_service n (answer.Listed lines) b f h calm still = absurd f
   one_service n (answer.QueryOutage line word) b f h calm still = absurd f
 
-  one_reading : (n : ℕ) (s : State) (line : Line A) (a b : Answer A) (t u : State) → AnswersReading of_register n s line a t → AnswersReading of_register n s line b u → is_outage a ≡ false → is_outage b ≡ false → Alike a b t u
+  one_reading : (n : ℕ) (s : State) (line : Line A) (a b : Answer A) (t u : State) → AnswersReading of_register n s line a t →
+      AnswersReading of_register n s line b u → is_outage a ≡ false → is_outage b ≡ false → Alike a b t u
   one_reading n s Silent a b t u f h calm still = alike a b t u (f.0 ∙ sym h.0, f.1 ∙ sym h.1)
   one_reading n s (Bad e) a b t u f h calm still = alike a b t u (f.0 ∙ sym h.0, f.1 ∙ sym h.1)
   one_reading n s (Mark word) a b t u f h calm still = alike a b t u (f.0 ∙ sym h.0, f.1 ∙ sym h.1)
@@ -241,7 +238,8 @@ module _ {A : Type 0} where
   one_reading n s (Ask q) a b t u f h calm still = alike a b t u (one_query n s q a b t u f h calm still)
   one_reading n s (Print l) a b t u f h calm still = alike a b t u (one_listing n s l a b t u f h calm still)
 
-  pub one_answer : (speaker : Speaker) (n : ℕ) (s : State) (line : List ℕ) (a b : Answer A) (t u : State) → Answers of_register speaker n s line a t → Answers of_register speaker n s line b u → is_outage a ≡ false → is_outage b ≡ false → Alike a b t u
+  pub one_answer : (speaker : Speaker) (n : ℕ) (s : State) (line : List ℕ) (a b : Answer A) (t u : State) → Answers of_register speaker n s line a t →
+      Answers of_register speaker n s line b u → is_outage a ≡ false → is_outage b ≡ false → Alike a b t u
   one_answer speaker n s line a b t u f h calm still = one_reading n s (heard speaker line) a b t u f h calm still
 
   pub one : OneText A
@@ -251,7 +249,7 @@ module _ {A : Type 0} where
   one speaker n s t u (line ∷ given) [] ys f h calm still = absurd f
   one speaker n s t u (line ∷ given) (x ∷ xs) [] f h calm still = absurd h
   one speaker n s t u (line ∷ given) (x ∷ xs) (y ∷ ys) f h calm still =
-      let first = one_answer speaker (n + 1) s line x y f.0 h.0 f.1 h.1 (or_left (is_outage x) (list_any is_outage xs) calm) (or_left (is_outage y) (list_any is_outage ys) still) in
+      let first = one_answer speaker (n + 1) s line x y f.0 h.0 f.1 h.1 (first_false (is_outage x) (list_any is_outage xs) calm) (first_false (is_outage y) (list_any is_outage ys) still) in
       let rest = one speaker (n + 1) f.0 t u given xs ys f.2 (subst (λ (m : State). Dialogue of_register speaker (n + 1) m given ys u) (sym first.1) h.2)
-      (or_right (is_outage x) (list_any is_outage xs) calm) (or_right (is_outage y) (list_any is_outage ys) still) in
+      (second_false (is_outage x) (list_any is_outage xs) calm) (second_false (is_outage y) (list_any is_outage ys) still) in
       (ap (λ (a : Answer A). a ∷ map without_figures xs) first.0 ∙ ap (λ (more : List (Answer A)). without_figures y ∷ more) rest.0, rest.1)

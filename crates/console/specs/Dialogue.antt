@@ -16,7 +16,7 @@ use Rattle.console.specs.declared.line.Line.{Line}
 use Rattle.console.specs.declared.line.Line.TheVariants as line
 use Rattle.console.specs.declared.answer.Answer.{Answer}
 use Rattle.console.specs.declared.answer.Answer.TheVariants as answer
-use Rattle.console.specs.Reading.{Speaker, heard, HasPdu}
+use Rattle.console.specs.Reading.{Speaker, heard, HasLongPdu}
 use Rattle.console.specs.Answer.{texts, is_trouble, is_outage, is_list, without_figures}
 use Rattle.console.specs.Service.{IsService}
 
@@ -36,9 +36,9 @@ AnswersService n (answer.ServiceOutage number) = number ≡ n
 AnswersService n other = ⊥
 
 module _ {A W : Type 0} where
-  -- memory runs out for the PDU in a command, and the desk does nothing
+  -- memory runs out for a PDU of more than 64 bits in a command, and the desk does nothing
   abbrev pub LacksPdu : W → Command A → Outage → W → Type 0
-  LacksPdu s c word t = HasPdu c.body × (word ≡ Memory) × (t ≡ s)
+  LacksPdu s c word t = HasLongPdu c.body × (word ≡ Memory) × (t ≡ s)
 
   -- the answer to a command, with its sequence: the desk's reply, or an outage word
   abbrev pub AnswersCommand : Rules A W → W → Command A → Answer A → W → Type 0

@@ -1,6 +1,7 @@
 pub mod Words
 pub mod Mark
 pub mod Service
+pub mod Forms
 pub mod Reading
 pub mod Answer
 pub mod Dialogue

@@ -1,8 +1,8 @@
 -- What a line asks. A is the allocator of its bits; nothing depends on it.
-use Rattle.std.specs.Prelude.{◌≡◌, All, false, ℕ, zero, suc, Bool, true, List, [], ◌∷◌, length, Option, Some, None, Result, Ok, Err}
+use Rattle.std.specs.Prelude.{◌≡◌, All, false, ℕ, zero, suc, Bool, true, List, [], ◌∷◌, length, Option, Some, None, IsTrue}
 use Rattle.std.specs.Prelude.{nat_lt, nat_le, ◌==◌, if◌then◌else◌, codes}
 use Rattle.std.specs.List.{slice_split}
-use Rattle.std.specs.Option.{option_and_then}
+use Rattle.std.specs.Option.{option_and_then, option_map}
 use Rattle.std.specs.Result.{result_ok}
 use Rattle.std.specs.Str.{bytes_eq}
 use Rattle.identity.specs.Numbers.{Itsi, Gtsi, Byte}
@@ -20,6 +20,9 @@ use Rattle.mailbox.specs.declared.key.Key.{Key}
 use Rattle.mailbox.specs.declared.key.Kind.{Kind}
 use Rattle.mailbox.specs.declared.key.Kind.TheVariants.{Message, Report}
 use Rattle.centre_core.specs.Numbers.{Sequence}
+use Rattle.centre_core.specs.Ranges.{pdu_of}
+use Rattle.centre_core.specs.Memory.{is_long}
+use Rattle.centre_core.specs.declared.command.Command.{Command}
 use Rattle.centre_core.specs.declared.command.Body.{Body}
 use Rattle.centre_core.specs.declared.command.Body.TheVariants.{RuleSet, RuleClear, Mm, Sds, GroupSds, Sent, Expire, Delete}
 use Rattle.centre_core.specs.declared.query.Query.{Query}
@@ -28,10 +31,18 @@ use Rattle.listings.specs.declared.listing.Listing.{Listing}
 use Rattle.listings.specs.declared.listing.Listing.TheVariants.{Entries, Last, Room, Dump}
 use Rattle.listings.specs.declared.listing.Table.TheVariants.{Rules, Radios, Items, Due, WaitingAt}
 use Rattle.console.specs.declared.body.Head.{Head}
-use Rattle.console.specs.declared.line.LineFault.{LineFault}
+use Rattle.console.specs.declared.form.Form.{Form}
+use Rattle.console.specs.declared.form.Form.TheVariants as form
+use Rattle.console.specs.declared.form.BodyForm.{BodyForm}
+use Rattle.console.specs.declared.form.BodyForm.TheVariants as body_form
+use Rattle.console.specs.declared.form.QueryForm.{QueryForm}
+use Rattle.console.specs.declared.form.QueryForm.TheVariants as query_form
+use Rattle.console.specs.declared.form.ListingForm.{ListingForm}
+use Rattle.console.specs.declared.form.ListingForm.TheVariants as listing_form
 use Rattle.console.specs.declared.line.LineFault.TheVariants.{Syntax, Value, TooLong}
 use Rattle.console.specs.declared.line.Line.{Line}
 use Rattle.console.specs.declared.line.Line.TheVariants.{Silent, Bad, Apply, Ask, Print, Mark, OwnStation, Service, Forbidden}
+use Rattle.console.specs.Forms.{word, form_of_words}
 use Rattle.console.specs.Mark.{mark_in}
 
 -- no byte of the text is the mark
@@ -117,11 +128,6 @@ key_of destination source reference kind = None
 abbrev pub key_in : List Byte → List Byte → List Byte → List Byte → Option Key
 key_in destination source reference kind = key_of (identity_in destination) (identity_in source) (reference_in reference) (kind_in kind)
 
--- what is made of a value that is in range; else a bad value
-abbrev pub saying : {V S : Type 0} → (V → S) → Option V → Result S LineFault
-saying says (Some value) = Ok (says value)
-saying says None = Err Value
-
 -- a station: 0 to 65,535
 abbrev pub station_in : List Byte → Option Station
 station_in word = result_ok (reading_number 65535 word)
@@ -138,112 +144,90 @@ due_at moment = Entries (Due moment)
 abbrev pub waiting_at : Station → Listing
 waiting_at station = Entries (WaitingAt station)
 
--- name WORD: a listing of a part, if the name is one of these
-abbrev pub listing_in : List Byte → List Byte → Option (Result Listing LineFault)
-listing_in name word =
-    if bytes_eq name (codes "radios") then Some (saying radios_under (prefix_in word))
-    else if bytes_eq name (codes "due") then Some (saying due_at (seconds_in word))
-    else if bytes_eq name (codes "waiting") then Some (saying waiting_at (station_in word))
-    else if bytes_eq name (codes "last") then Some (saying Last (station_in word))
-    else None
+-- the query that words of this form ask, if each is in range
+abbrev pub query_in : QueryForm → List (List Byte) → Option Query
+query_in query_form.Whereabouts words = option_map Whereabouts (identity_in (word 1 words))
+query_in query_form.Look words = option_map Look (identity_in (word 1 words))
+query_in query_form.GroupsOf words = option_map GroupsOf (identity_in (word 1 words))
+query_in query_form.MembersOf words = option_map MembersOf (identity_in (word 1 words))
+query_in query_form.Waiting words = option_map Waiting (identity_in (word 1 words))
+query_in query_form.Total words = Some Total
 
--- name ID: a query about an identity
-abbrev pub query_in : List Byte → List Byte → Result Query LineFault
-query_in name identity =
-    if bytes_eq name (codes "where") then saying Whereabouts (identity_in identity)
-    else if bytes_eq name (codes "look") then saying Look (identity_in identity)
-    else if bytes_eq name (codes "groups") then saying GroupsOf (identity_in identity)
-    else if bytes_eq name (codes "members") then saying MembersOf (identity_in identity)
-    else if bytes_eq name (codes "mail") then saying Waiting (identity_in identity)
-    else Err Syntax
+-- the listing that words of this form ask for, if each is in range
+abbrev pub listing_in : ListingForm → List (List Byte) → Option Listing
+listing_in listing_form.Rules words = Some (Entries Rules)
+listing_in listing_form.Radios words = Some (Entries (Radios None))
+listing_in listing_form.RadiosUnder words = option_map radios_under (prefix_in (word 1 words))
+listing_in listing_form.Items words = Some (Entries Items)
+listing_in listing_form.Due words = option_map due_at (seconds_in (word 1 words))
+listing_in listing_form.WaitingAt words = option_map waiting_at (station_in (word 1 words))
+listing_in listing_form.Last words = option_map Last (station_in (word 1 words))
+listing_in listing_form.Room words = Some Room
+listing_in listing_form.Dump words = Some Dump
 
 module _ {A : Type 0} where
-  -- rule PREFIX LOW HIGH LIFE KEEP
-  abbrev pub rule_body : Option Path → Option Rule → Result (Body A) LineFault
-  rule_body (Some prefix) (Some rule) = Ok (RuleSet prefix rule)
-  rule_body prefix rule = Err Value
+  -- PREFIX LOW HIGH LIFE KEEP, after `rule`
+  abbrev pub rule_body : Option Path → Option Rule → Option (Body A)
+  rule_body (Some prefix) (Some rule) = Some (RuleSet prefix rule)
+  rule_body prefix rule = None
 
-  -- mm ITSI LA PDU
-  abbrev pub mm_body : Option Itsi → Option Area → Option (List Bool) → Result (Body A) LineFault
-  mm_body (Some itsi) (Some area) (Some pdu) = Ok (Mm itsi area pdu)
-  mm_body itsi area pdu = Err Value
+  -- ITSI LA PDU, after `mm`
+  abbrev pub mm_body : Option Itsi → Option Area → Option (List Bool) → Option (Body A)
+  mm_body (Some itsi) (Some area) (Some pdu) = Some (Mm itsi area pdu)
+  mm_body itsi area pdu = None
 
-  -- sds SOURCE DEST PDU
-  abbrev pub sds_body : Option Itsi → Option Itsi → Option (List Bool) → Result (Body A) LineFault
-  sds_body (Some source) (Some destination) (Some pdu) = Ok (Sds source destination pdu)
-  sds_body source destination pdu = Err Value
+  -- SOURCE DEST PDU, after `sds`
+  abbrev pub sds_body : Option Itsi → Option Itsi → Option (List Bool) → Option (Body A)
+  sds_body (Some source) (Some destination) (Some pdu) = Some (Sds source destination pdu)
+  sds_body source destination pdu = None
 
-  -- gsds SOURCE GTSI PDU
-  abbrev pub group_sds_body : Option Itsi → Option Gtsi → Option (List Bool) → Result (Body A) LineFault
-  group_sds_body (Some source) (Some group) (Some pdu) = Ok (GroupSds source group pdu)
-  group_sds_body source group pdu = Err Value
+  -- SOURCE GTSI PDU, after `gsds`
+  abbrev pub group_sds_body : Option Itsi → Option Gtsi → Option (List Bool) → Option (Body A)
+  group_sds_body (Some source) (Some group) (Some pdu) = Some (GroupSds source group pdu)
+  group_sds_body source group pdu = None
 
-  -- the form is found by its name and the number of words after it; these are judged after that
-  abbrev pub body_in : List Byte → List (List Byte) → Result (Body A) LineFault
-  body_in name [] = if bytes_eq name (codes "expire") then Ok Expire else Err Syntax
-  body_in name (prefix ∷ []) = if bytes_eq name (codes "unrule") then saying RuleClear (prefix_in prefix) else Err Syntax
-  body_in name (first ∷ second ∷ pdu ∷ []) =
-      if bytes_eq name (codes "mm") then mm_body (identity_in first) (area_in second) (pdu_in pdu)
-      else if bytes_eq name (codes "sds") then sds_body (identity_in first) (identity_in second) (pdu_in pdu)
-      else if bytes_eq name (codes "gsds") then group_sds_body (identity_in first) (identity_in second) (pdu_in pdu)
-      else Err Syntax
-  body_in name (destination ∷ source ∷ reference ∷ kind ∷ []) =
-      if bytes_eq name (codes "sent") then saying Sent (key_in destination source reference kind)
-      else if bytes_eq name (codes "delete") then saying Delete (key_in destination source reference kind)
-      else Err Syntax
-  body_in name (prefix ∷ low ∷ high ∷ lifetime ∷ keep ∷ []) =
-      if bytes_eq name (codes "rule") then rule_body (prefix_in prefix) (rule_in low high lifetime keep) else Err Syntax
-  body_in name other = Err Syntax
+  -- the body that words of this form say, if each is in range
+  abbrev pub body_in : BodyForm → List (List Byte) → Option (Body A)
+  body_in body_form.RuleSet words = rule_body (prefix_in (word 3 words)) (rule_in (word 4 words) (word 5 words) (word 6 words) (word 7 words))
+  body_in body_form.RuleClear words = option_map RuleClear (prefix_in (word 3 words))
+  body_in body_form.Mm words = mm_body (identity_in (word 3 words)) (area_in (word 4 words)) (pdu_in (word 5 words))
+  body_in body_form.Sds words = sds_body (identity_in (word 3 words)) (identity_in (word 4 words)) (pdu_in (word 5 words))
+  body_in body_form.GroupSds words = group_sds_body (identity_in (word 3 words)) (identity_in (word 4 words)) (pdu_in (word 5 words))
+  body_in body_form.Sent words = option_map Sent (key_in (word 3 words) (word 4 words) (word 5 words) (word 6 words))
+  body_in body_form.Expire words = Some Expire
+  body_in body_form.Delete words = option_map Delete (key_in (word 3 words) (word 4 words) (word 5 words) (word 6 words))
 
-  -- a command of this station; a fault of its body comes before one of its head
-  abbrev pub command_line : Station → Option Head → Result (Body A) LineFault → Line A
-  command_line station head (Err fault) = Bad fault
-  command_line station None (Ok body) = Bad Value
-  command_line station (Some head) (Ok body) = Apply (record { station = station; sequence = head.sequence; moment = head.moment; body = body })
+  -- a command of this station, by its head and its body
+  abbrev pub command_of : Station → Option Head → Option (Body A) → Option (Command A)
+  command_of station (Some head) (Some body) = Some (record { station = station; sequence = head.sequence; moment = head.moment; body = body })
+  command_of station head body = None
 
-  -- a query, or a bad line
-  abbrev pub ask : Result Query LineFault → Line A
-  ask (Ok query) = Ask query
-  ask (Err fault) = Bad fault
+  -- the line that is made of a value; a bad value, if there is none
+  abbrev pub line_of : {V : Type 0} → (V → Line A) → Option V → Line A
+  line_of says (Some value) = says value
+  line_of says None = Bad Value
 
-  -- a listing, or a bad line
-  abbrev pub print : Result Listing LineFault → Line A
-  print (Ok listing) = Print listing
-  print (Err fault) = Bad fault
+  -- what the words of a command say
+  abbrev pub command_line : Station → BodyForm → List (List Byte) → Line A
+  command_line station form words = line_of Apply (command_of station (head_in (word 0 words) (word 1 words)) (body_in form words))
 
-  -- a mark, or a bad line
-  abbrev pub marked : Option (List Byte) → Line A
-  marked (Some word) = Mark word
-  marked None = Bad Value
+  -- what words of this form say
+  abbrev pub of_form : Station → Form → List (List Byte) → Line A
+  of_form station (form.Apply body) words = command_line station body words
+  of_form station (form.Ask query) words = line_of Ask (query_in query words)
+  of_form station (form.Print listing) words = line_of Print (listing_in listing words)
+  of_form station form.Mark words = line_of Mark (mark_in (word 1 words))
+  of_form station form.OwnStation words = OwnStation station
+  of_form station form.Service words = Service
 
-  -- a word alone: the count, a listing, or the question which station this is or for the figures of the service
-  abbrev pub of_word : Station → List Byte → Line A
-  of_word station name =
-      if bytes_eq name (codes "count") then Ask Total
-      else if bytes_eq name (codes "rules") then Print (Entries Rules)
-      else if bytes_eq name (codes "radios") then Print (Entries (Radios None))
-      else if bytes_eq name (codes "items") then Print (Entries Items)
-      else if bytes_eq name (codes "room") then Print Room
-      else if bytes_eq name (codes "dump") then Print Dump
-      else if bytes_eq name (codes "station") then OwnStation station
-      else if bytes_eq name (codes "service") then Service
-      else Bad Syntax
+  -- only when the form is found are the words judged
+  abbrev pub by_form : Station → Option Form → List (List Byte) → Line A
+  by_form station None words = Bad Syntax
+  by_form station (Some form) words = of_form station form words
 
-  -- a listing, or else a query
-  abbrev pub listing_or : Option (Result Listing LineFault) → Result Query LineFault → Line A
-  listing_or (Some listing) query = print listing
-  listing_or None query = ask query
-
-  -- two words: a mark, a listing or a query
-  abbrev pub of_two : List Byte → List Byte → Line A
-  of_two name word = if bytes_eq name (codes "mark") then marked (mark_in word) else listing_or (listing_in name word) (query_in name word)
-
-  -- one or two words are a mark, a query or a listing, more are a command
+  -- what words say
   abbrev pub of_words : Station → List (List Byte) → Line A
-  of_words station [] = Bad Syntax
-  of_words station (name ∷ []) = of_word station name
-  of_words station (name ∷ word ∷ []) = of_two name word
-  of_words station (sequence ∷ moment ∷ name ∷ more) = command_line station (head_in sequence moment) (body_in name more)
+  of_words station words = by_form station (form_of_words words) words
 
 -- the most bytes of a line, without its end
 abbrev pub longest_line : ℕ
@@ -285,30 +269,20 @@ module _ {A : Type 0} where
   abbrev pub heard : Speaker → List Byte → Line A
   heard speaker line = permitted speaker.orders (reading speaker.station line)
 
-  -- the body has a PDU
-  abbrev pub HasPdu : Body A → Type 0
-  HasPdu (Mm itsi area pdu) = Unit {0}
-  HasPdu (Sds source destination pdu) = Unit {0}
-  HasPdu (GroupSds source group pdu) = Unit {0}
-  HasPdu other = ⊥
+  -- the body has a PDU of more than 64 bits
+  abbrev pub HasLongPdu : Body A → Type 0
+  HasLongPdu body = IsTrue (is_long (pdu_of body))
 
-  -- the words are a body with a PDU
-  abbrev pub GivesPdu : Result (Body A) LineFault → Type 0
-  GivesPdu (Ok body) = HasPdu body
-  GivesPdu (Err fault) = ⊥
+  -- there is a body, and it has such a PDU
+  abbrev pub GivesLongPdu : Option (Body A) → Type 0
+  GivesLongPdu (Some body) = HasLongPdu body
+  GivesLongPdu None = ⊥
 
-  -- the sequence of a command with this body, if that has a PDU
-  abbrev pub with_pdu : Sequence → Body A → Option Sequence
-  with_pdu sequence (RuleSet prefix rule) = None
-  with_pdu sequence (RuleClear prefix) = None
-  with_pdu sequence (Mm itsi area pdu) = Some sequence
-  with_pdu sequence (Sds source destination pdu) = Some sequence
-  with_pdu sequence (GroupSds source group pdu) = Some sequence
-  with_pdu sequence (Sent key) = None
-  with_pdu sequence Expire = None
-  with_pdu sequence (Delete key) = None
+  -- the sequence of a command with this body, if its PDU has more than 64 bits
+  abbrev pub with_long_pdu : Sequence → Body A → Option Sequence
+  with_long_pdu sequence body = if is_long (pdu_of body) then Some sequence else None
 
-  -- the sequence of a line that is a command with a PDU
+  -- the sequence of a line that is a command with such a PDU
   abbrev pub sequence_of : Line A → Option Sequence
-  sequence_of (Apply c) = with_pdu c.sequence c.body
+  sequence_of (Apply c) = with_long_pdu c.sequence c.body
   sequence_of other = None

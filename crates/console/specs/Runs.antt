@@ -41,6 +41,6 @@ module _ (A : Type 0) {W : Type 0} (rules : Rules A W) (start : Start W) (end : 
   abbrev pub HasRun : List Byte → List Byte → Type 0
   HasRun input before = (out : List Byte) × (end.written ≡ Some (before ++ out)) × IfOk end.result (RunsWell input out) × OnErr end.result (RunsShort input out)
 
-  -- the same, if the bytes of the reader and of the writer are known
+  -- what the run wrote answers what it read (`HasRun`), where the bytes of the reader and of the writer are known
   abbrev pub IsRun : Type 0
   IsRun = (input before : List Byte) → start.unread ≡ Some input → start.written ≡ Some before → HasRun input before

@@ -1,6 +1,11 @@
 -- The answer to the query `service`. Of the figures in it only the form is said.
-use Rattle.std.specs.Prelude.{◌≡◌, ◌⊎◌, ℕ, ◌+◌, Bool, true, false, List, [], ◌∷◌, ◌++◌, length, codes, decimal}
+use Rattle.std.specs.Prelude.{◌≡◌, ◌⊎◌, ℕ, ◌+◌, ◌-◌, ◌^◌, Bool, true, false, List, [], ◌∷◌, ◌++◌, Option, Some, None, Result, Ok, Err, Vec, length, min, codes, decimal}
+use Rattle.std.specs.declared.alloc.Global.{Global}
 use Rattle.identity.specs.Numbers.{Byte}
+use Rattle.centre_core.specs.declared.reply.Reply.{Reply}
+use Rattle.centre_core.specs.declared.reply.Reply.TheVariants as reply
+use Rattle.console.specs.declared.figures.ReplyCounts.{ReplyCounts}
+use Rattle.console.specs.declared.figures.ServiceFigures.{ServiceFigures}
 use Rattle.console.specs.declared.figures.StationFigures.{StationFigures}
 use Rattle.console.specs.declared.figures.StoreFigures.{StoreFigures}
 
@@ -41,3 +46,31 @@ station_lines number (figures ∷ more) = station_line number figures ++ station
 abbrev pub IsService : List Byte → Type 0
 IsService lines = (lines ≡ codes "service 0\n")
     ⊎ ((rounds : ℕ) × (store : StoreFigures) × (stations : List StationFigures) × (lines ≡ service_words (length stations) rounds store ++ station_lines 1 stations))
+
+-- one more; a count stays at the greatest number of 64 bits
+abbrev pub counted : ℕ → ℕ
+counted count = min (count + 1) (2 ^ 64 - 1)
+
+-- no reply is counted yet
+abbrev pub no_replies : ReplyCounts
+no_replies = record { accepted = 0; refused = 0; kept = 0 }
+
+-- these counts and one reply more, by its kind
+abbrev pub with_reply : {B : Type 0} → ReplyCounts → Reply B → ReplyCounts
+with_reply counts (reply.Accepted number pdu) = record { accepted = counted counts.accepted; refused = counts.refused; kept = counts.kept }
+with_reply counts (reply.Kept number pdu) = record { accepted = counts.accepted; refused = counts.refused; kept = counted counts.kept }
+with_reply counts (reply.Refused refusal) = record { accepted = counts.accepted; refused = counted counts.refused; kept = counts.kept }
+
+-- the same with a result, which counts only if it is a reply
+abbrev pub with_result : {B E : Type 0} → ReplyCounts → Result (Reply B) E → ReplyCounts
+with_result counts (Ok replied) = with_reply counts replied
+with_result counts (Err outage) = counts
+
+-- how many items a list has, if there is one
+abbrev pub count_in : {T : Type 0} → Option (Vec T Global) → ℕ
+count_in None = 0
+count_in (Some each) = length each.items
+
+-- how many stations a service has by its figures
+abbrev pub stations_of : ServiceFigures → ℕ
+stations_of figures = count_in figures.stations

@@ -1,7 +1,7 @@
 -- The lines that spell a command, a query, a listing or a mark.
 use Rattle.std.specs.Prelude.{◌≡◌, ◌↔◌, ◌⊎◌, ◌<◌, ◌≤◌, ◌^◌, Bool, true, false, length, List, [], ◌∷◌, ◌++◌, Some, None, codes, decimal}
-use Rattle.std.specs.List.{join_with_byte, list_any}
-use Rattle.std.specs.Str.{bytes_eq}
+use Rattle.std.specs.List.{join_with_byte}
+use Rattle.std.specs.Option.{is_some}
 use Rattle.identity.specs.Numbers.{Byte}
 use Rattle.identity.specs.IdentityText.{identity_text, prefix_text}
 use Rattle.identity.specs.BitsText.{SpellsBits}
@@ -21,6 +21,7 @@ use Rattle.listings.specs.declared.listing.Listing.TheVariants.{Entries, Last, R
 use Rattle.listings.specs.declared.listing.Table.TheVariants.{Rules, Radios, Items, Due, WaitingAt}
 use Rattle.console.specs.declared.line.Line.TheVariants.{Bad, Apply, Ask, Print, Mark, OwnStation, Service, Forbidden}
 use Rattle.console.specs.declared.line.LineFault.TheVariants.{Syntax, Value, TooLong}
+use Rattle.console.specs.Forms.{form_of_words}
 use Rattle.console.specs.Mark.{is_mark}
 use Rattle.console.specs.Reading.{reading, words, is_silent, longest_line}
 
@@ -186,22 +187,9 @@ AllService A = (station : Station) → reading {A = A} station service_line ≡ 
 abbrev pub MarkCompletesNoCommand : Type 0 → Type 0
 MarkCompletesNoCommand A = (station : Station) (before word : List Byte) (c : Command A) → reading station (before ++ codes "mark " ++ word) ≡ Apply c → ⊥
 
--- a word is one of these
-abbrev pub is_one_of : List (List Byte) → List Byte → Bool
-is_one_of names word = list_any (bytes_eq word) names
-
--- the forms of lines, by their number of words: a mark, a query or a listing is named by its first word, a command by its third
+-- the words have a form
 abbrev pub has_form : List (List Byte) → Bool
-has_form (name ∷ []) = is_one_of (codes "count" ∷ codes "rules" ∷ codes "radios" ∷ codes "items" ∷ codes "room" ∷ codes "dump" ∷ codes "station" ∷ codes "service" ∷ []) name
-has_form (name ∷ word ∷ []) =
-    is_one_of (codes "mark" ∷ codes "radios" ∷ codes "due" ∷ codes "waiting" ∷ codes "last"
-    ∷ codes "where" ∷ codes "look" ∷ codes "groups" ∷ codes "members" ∷ codes "mail" ∷ []) name
-has_form (sequence ∷ moment ∷ name ∷ []) = is_one_of (codes "expire" ∷ []) name
-has_form (sequence ∷ moment ∷ name ∷ a ∷ []) = is_one_of (codes "unrule" ∷ []) name
-has_form (sequence ∷ moment ∷ name ∷ a ∷ b ∷ c ∷ []) = is_one_of (codes "mm" ∷ codes "sds" ∷ codes "gsds" ∷ []) name
-has_form (sequence ∷ moment ∷ name ∷ a ∷ b ∷ c ∷ d ∷ []) = is_one_of (codes "sent" ∷ codes "delete" ∷ []) name
-has_form (sequence ∷ moment ∷ name ∷ a ∷ b ∷ c ∷ d ∷ e ∷ []) = is_one_of (codes "rule" ∷ []) name
-has_form other = false
+has_form words = is_some (form_of_words words)
 
 -- a line spells a command of its station, in range
 abbrev pub IsCommandLine : Type 0 → Station → List Byte → Type 0

@@ -83,15 +83,15 @@ pub record EndsFor (turns : ℕ) (calls events : List Event) (result : Result Ra
   -- at NoMemory nothing was read, answered or written
   pub memory : IsErrOf result fault.NoMemory → (calls ≡ []) × (events ≡ [])
 
--- the same of the calls that an input made from one moment to another, and of what passed by an output meanwhile
+-- why a run with this result ended (`EndsFor`), by the calls that its input made from one moment to another and what passed by its output meanwhile
 abbrev pub EndsSince : ℕ → List Event → List Event → List Event → List Event → Result Ran RunFault → Type 0
 EndsSince turns called called_now passed passed_now result = (calls : List Event) × (events : List Event)
     × (called_now ≡ called ++ calls) × (passed_now ≡ passed ++ events) × EndsFor turns calls events result
 
 -- what passed in a run, once it has ended: the calls of its reader
-abbrev pub reader_events : {R : Type 0} → Passed R → List Event
+abbrev pub reader_events : {R W : Type 0} → Passed R W → List Event
 reader_events passed = passed.by_reader.list
 
 -- the answers that were given, and the calls of its writer
-abbrev pub writer_events : {R : Type 0} → Passed R → List Event
+abbrev pub writer_events : {R W : Type 0} → Passed R W → List Event
 writer_events passed = passed.by_writer.list

@@ -1,14 +1,15 @@
-//! The words of a command or a query: those before the word that names its form, and those after it.
-ghost use Rattle.std.specs.Prelude.{◌≡◌, ◌≢◌, ◌∷◌, [], IfOk, OnErr, IsSome, length, map};
+//! The words of a form: each is judged, and the values are put together.
+ghost use Rattle.std.specs.Prelude.{◌≡◌, IfOk, OnErr, IsTrue};
 ghost use Rattle.std.specs.Result.{result_ok};
-ghost use Rattle.identity.specs.IdentityText.{reading_identity, reading_prefix};
 ghost use Rattle.identity.specs.BitsText.{reading_bits};
-ghost use Rattle.centre_core.specs.declared.query.Query.TheVariants.{Whereabouts};
-ghost use Rattle.centre_core.specs.declared.command.Body.TheVariants.{RuleClear};
-ghost use Rattle.console.specs.Reading.{listing_in, station_in, query_in, body_in, mm_body, sds_body, group_sds_body, rule_body, GivesPdu, head_in};
-ghost use Rattle.console.specs.Reading.{seconds_in, sequence_in, area_in, lifetime_in, rule_in, reference_in, kind_in, key_in, saying};
+ghost use Rattle.centre_core.specs.Memory.{is_long};
+ghost use Rattle.console.specs.declared.form.BodyForm.TheVariants.{RuleSet, RuleClear, Mm, Sds, GroupSds};
+ghost use Rattle.console.specs.Forms.{word};
+ghost use Rattle.console.specs.Reading.{head_in, query_in, listing_in, body_in, GivesLongPdu};
+ghost use Rattle.console.specs.Reading.{seconds_in, sequence_in, station_in, area_in, lifetime_in, rule_in, reference_in, kind_in, key_in};
+ghost use Rattle.console.specs.Inside.Left.{words_in};
 
-use crate::line::LineFault;
+use crate::form::{BodyForm, ListingForm, QueryForm, Words};
 use centre_core::{Body, Query, Sequence};
 use identity::{Bits, Fault, parse_bits, parse_gtsi, parse_itsi, parse_number, parse_prefix};
 use listings::{Listing, Table};
@@ -35,83 +36,76 @@ pub(crate) fn head_in(sequence: &[u8], moment: &[u8]) -> Option<Head>
     Some(Head { sequence, moment })
 }
 
-/// A listing of a part: `radios PREFIX`, `due MOMENT`, `waiting STATION` or `last STATION`. `None` for another name.
-pub(crate) fn listing_in(name: &[u8], word: &[u8]) -> Option<Result<Listing, LineFault>>
-    ensures { result ≡ listing_in name.now word.now }
+/// The query that words of this form ask, if each is in range.
+#[inline(always)]
+pub(crate) fn query_in(form: QueryForm, words: &Words<'_>) -> Option<Query>
+    ensures { result ≡ query_in form (words_in words.now) }
 {
-    let listing = if name == b"radios".as_slice() {
-        let prefix = parse_prefix(word).ok();
-        prefix.map(|prefix| Listing::Entries(Table::Radios(Some(prefix))))
-    } else if name == b"due".as_slice() {
-        let moment = seconds_in(word);
-        moment.map(|moment| Listing::Entries(Table::Due(Moment::new(moment))))
-    } else if name == b"waiting".as_slice() {
-        station_in(word).map(|station| Listing::Entries(Table::WaitingAt(station)))
-    } else if name == b"last".as_slice() {
-        station_in(word).map(Listing::Last)
-    } else {
-        return None;
-    };
-    Some(listing.ok_or(LineFault::Value))
-}
-
-/// A query about an identity.
-pub(crate) fn query_in(name: &[u8], identity: &[u8]) -> Result<Query, LineFault>
-    ensures { result ≡ query_in name.now identity.now }
-{
-    let query = if name == b"where".as_slice() {
-        parse_itsi(identity).map(Query::Whereabouts)
-    } else if name == b"look".as_slice() {
-        parse_itsi(identity).map(Query::Look)
-    } else if name == b"groups".as_slice() {
-        parse_itsi(identity).map(Query::GroupsOf)
-    } else if name == b"members".as_slice() {
-        parse_gtsi(identity).map(Query::MembersOf)
-    } else if name == b"mail".as_slice() {
-        parse_itsi(identity).map(Query::Waiting)
-    } else {
-        return Err(LineFault::Syntax);
-    };
-    query.or(Err(LineFault::Value))
-}
-
-/// The body of a command without a PDU, after the word that names its form. No form has three words there.
-pub(crate) fn plain_body<A: Allocator>(name: &[u8], words: &[&[u8]]) -> Result<Body<A>, LineFault>
-    requires { length words.now ≢ 3 }
-    ensures { result ≡ body_in name.now (map (λ w. w.now) words.now) }
-{
-    match words {
-        [] => {
-            if name == b"expire".as_slice() {
-                return Ok(Body::Expire);
-            }
-            Err(LineFault::Syntax)
-        }
-        [prefix] => {
-            if name == b"unrule".as_slice() {
-                return unrule_body(prefix);
-            }
-            Err(LineFault::Syntax)
-        }
-        [destination, source, reference, kind] => {
-            key_body(name, destination, source, reference, kind)
-        }
-        [prefix, low, high, lifetime, keep] => {
-            if name == b"rule".as_slice() {
-                return rule_body(prefix, low, high, lifetime, keep);
-            }
-            Err(LineFault::Syntax)
-        }
-        _ => Err(LineFault::Syntax),
+    match form {
+        QueryForm::Whereabouts => parse_itsi(words.at(1)).ok().map(Query::Whereabouts),
+        QueryForm::Look => parse_itsi(words.at(1)).ok().map(Query::Look),
+        QueryForm::GroupsOf => parse_itsi(words.at(1)).ok().map(Query::GroupsOf),
+        QueryForm::MembersOf => parse_gtsi(words.at(1)).ok().map(Query::MembersOf),
+        QueryForm::Waiting => parse_itsi(words.at(1)).ok().map(Query::Waiting),
+        QueryForm::Total => Some(Query::Total),
     }
 }
 
-/// The bits of a PDU, if the word is one.
+/// The listing that words of this form ask for, if each is in range.
 #[inline(always)]
-#[tactic(auto, using(crate::proofs::Forms::bits_are_judged))]
+pub(crate) fn listing_in(form: ListingForm, words: &Words<'_>) -> Option<Listing>
+    ensures { result ≡ listing_in form (words_in words.now) }
+{
+    match form {
+        ListingForm::Rules => Some(Listing::Entries(Table::Rules)),
+        ListingForm::Radios => Some(Listing::Entries(Table::Radios(None))),
+        ListingForm::RadiosUnder => {
+            let prefix = parse_prefix(words.at(1)).ok();
+            prefix.map(|prefix| Listing::Entries(Table::Radios(Some(prefix))))
+        }
+        ListingForm::Items => Some(Listing::Entries(Table::Items)),
+        ListingForm::Due => {
+            let moment = seconds_in(words.at(1));
+            moment.map(|moment| Listing::Entries(Table::Due(Moment::new(moment))))
+        }
+        ListingForm::WaitingAt => {
+            let station = station_in(words.at(1));
+            station.map(|station| Listing::Entries(Table::WaitingAt(station)))
+        }
+        ListingForm::Last => station_in(words.at(1)).map(Listing::Last),
+        ListingForm::Room => Some(Listing::Room),
+        ListingForm::Dump => Some(Listing::Dump),
+    }
+}
+
+/// The body that words of this form say, if each is in range.
+#[inline(always)]
+pub(crate) fn body_in<A: Allocator>(
+    alloc: A,
+    form: BodyForm,
+    words: &Words<'_>,
+) -> Result<Option<Body<A>>, AllocError>
+    ensures ok { IfOk result (λ body. body ≡ body_in form (words_in words.now)) }
+    ensures err { OnErr result (GivesLongPdu (body_in {A = A} form (words_in words.now))) }
+{
+    match form {
+        BodyForm::RuleSet => Ok(rule_body(words)),
+        BodyForm::RuleClear => Ok(unrule_body(words)),
+        BodyForm::Mm => mm_body(alloc, words),
+        BodyForm::Sds => sds_body(alloc, words),
+        BodyForm::GroupSds => group_sds_body(alloc, words),
+        BodyForm::Sent => Ok(key_in(words).map(|key| Body::Sent(key))),
+        BodyForm::Expire => Ok(Some(Body::Expire)),
+        BodyForm::Delete => Ok(key_in(words).map(|key| Body::Delete(key))),
+    }
+}
+
+/// The bits of a PDU, if the word is one. Only more than 64 bits take memory.
+#[inline(always)]
+#[tactic(auto, using(crate::proofs::Forms::bits_are_judged, crate::proofs::Forms::long_read))]
 fn bits_in<A: Allocator>(alloc: A, word: &[u8]) -> Result<Option<Bits<A>>, AllocError>
     ensures ok { IfOk result (λ bits. bits ≡ result_ok (reading_bits word.now)) }
-    ensures err { OnErr result (IsSome (result_ok (reading_bits word.now))) }
+    ensures err { OnErr result (IsTrue (is_long (result_ok (reading_bits word.now)))) }
 {
     match parse_bits(alloc, word) {
         Ok(bits) => Ok(Some(bits)),
@@ -122,44 +116,32 @@ fn bits_in<A: Allocator>(alloc: A, word: &[u8]) -> Result<Option<Bits<A>>, Alloc
 
 /// `mm ITSI LA PDU`
 #[inline(always)]
-fn mm_body<A: Allocator>(
-    alloc: A,
-    itsi: &[u8],
-    area: &[u8],
-    pdu: &[u8],
-) -> Result<Result<Body<A>, LineFault>, AllocError>
-    ensures ok { IfOk result (λ said. said ≡ mm_body (result_ok (reading_identity itsi.now)) (area_in area.now) (result_ok (reading_bits pdu.now))) }
-    ensures err { OnErr result (GivesPdu (mm_body {A = A} (result_ok (reading_identity itsi.now)) (area_in area.now) (result_ok (reading_bits pdu.now)))) }
+fn mm_body<A: Allocator>(alloc: A, words: &Words<'_>) -> Result<Option<Body<A>>, AllocError>
+    ensures ok { IfOk result (λ body. body ≡ body_in Mm (words_in words.now)) }
+    ensures err { OnErr result (GivesLongPdu (body_in {A = A} Mm (words_in words.now))) }
 {
-    let (Ok(itsi), Some(area)) = (parse_itsi(itsi), area_in(area)) else {
-        return Ok(Err(LineFault::Value));
+    let (Ok(itsi), Some(area)) = (parse_itsi(words.at(3)), area_in(words.at(4))) else {
+        return Ok(None);
     };
-    let Some(pdu) = bits_in(alloc, pdu)? else {
-        return Ok(Err(LineFault::Value));
+    let Some(pdu) = bits_in(alloc, words.at(5))? else {
+        return Ok(None);
     };
-    Ok(Ok(Body::Mm { itsi, area, pdu }))
+    Ok(Some(Body::Mm { itsi, area, pdu }))
 }
 
 /// `sds SOURCE DEST PDU`
 #[inline(always)]
-fn sds_body<A: Allocator>(
-    alloc: A,
-    source: &[u8],
-    destination: &[u8],
-    pdu: &[u8],
-) -> Result<Result<Body<A>, LineFault>, AllocError>
-    ensures ok { IfOk result (λ said. said ≡ sds_body
-        (result_ok (reading_identity source.now)) (result_ok (reading_identity destination.now)) (result_ok (reading_bits pdu.now))) }
-    ensures err { OnErr result (GivesPdu (sds_body {A = A}
-        (result_ok (reading_identity source.now)) (result_ok (reading_identity destination.now)) (result_ok (reading_bits pdu.now)))) }
+fn sds_body<A: Allocator>(alloc: A, words: &Words<'_>) -> Result<Option<Body<A>>, AllocError>
+    ensures ok { IfOk result (λ body. body ≡ body_in Sds (words_in words.now)) }
+    ensures err { OnErr result (GivesLongPdu (body_in {A = A} Sds (words_in words.now))) }
 {
-    let (Ok(source), Ok(destination)) = (parse_itsi(source), parse_itsi(destination)) else {
-        return Ok(Err(LineFault::Value));
+    let (Ok(source), Ok(destination)) = (parse_itsi(words.at(3)), parse_itsi(words.at(4))) else {
+        return Ok(None);
     };
-    let Some(pdu) = bits_in(alloc, pdu)? else {
-        return Ok(Err(LineFault::Value));
+    let Some(pdu) = bits_in(alloc, words.at(5))? else {
+        return Ok(None);
     };
-    Ok(Ok(Body::Sds {
+    Ok(Some(Body::Sds {
         source,
         destination,
         pdu,
@@ -167,96 +149,37 @@ fn sds_body<A: Allocator>(
 }
 
 /// `gsds SOURCE GTSI PDU`
-fn group_sds_body<A: Allocator>(
-    alloc: A,
-    source: &[u8],
-    group: &[u8],
-    pdu: &[u8],
-) -> Result<Result<Body<A>, LineFault>, AllocError>
-    ensures ok { IfOk result (λ said. said ≡ group_sds_body
-        (result_ok (reading_identity source.now)) (result_ok (reading_identity group.now)) (result_ok (reading_bits pdu.now))) }
-    ensures err { OnErr result (GivesPdu (group_sds_body {A = A}
-        (result_ok (reading_identity source.now)) (result_ok (reading_identity group.now)) (result_ok (reading_bits pdu.now)))) }
+fn group_sds_body<A: Allocator>(alloc: A, words: &Words<'_>) -> Result<Option<Body<A>>, AllocError>
+    ensures ok { IfOk result (λ body. body ≡ body_in GroupSds (words_in words.now)) }
+    ensures err { OnErr result (GivesLongPdu (body_in {A = A} GroupSds (words_in words.now))) }
 {
-    let (Ok(source), Ok(group)) = (parse_itsi(source), parse_gtsi(group)) else {
-        return Ok(Err(LineFault::Value));
+    let (Ok(source), Ok(group)) = (parse_itsi(words.at(3)), parse_gtsi(words.at(4))) else {
+        return Ok(None);
     };
-    let Some(pdu) = bits_in(alloc, pdu)? else {
-        return Ok(Err(LineFault::Value));
+    let Some(pdu) = bits_in(alloc, words.at(5))? else {
+        return Ok(None);
     };
-    Ok(Ok(Body::GroupSds { source, group, pdu }))
-}
-
-/// The body of a command with three words after its name: two of its parts, and its PDU.
-#[inline(always)]
-pub(crate) fn three_body<A: Allocator>(
-    alloc: A,
-    name: &[u8],
-    first: &[u8],
-    second: &[u8],
-    pdu: &[u8],
-) -> Result<Result<Body<A>, LineFault>, AllocError>
-    ensures ok { IfOk result (λ said. said ≡ body_in name.now (first.now ∷ second.now ∷ pdu.now ∷ [])) }
-    ensures err { OnErr result (GivesPdu (body_in {A = A} name.now (first.now ∷ second.now ∷ pdu.now ∷ []))) }
-{
-    if name == b"mm".as_slice() {
-        return mm_body(alloc, first, second, pdu);
-    }
-    if name == b"sds".as_slice() {
-        return sds_body(alloc, first, second, pdu);
-    }
-    if name == b"gsds".as_slice() {
-        return group_sds_body(alloc, first, second, pdu);
-    }
-    Ok(Err(LineFault::Syntax))
+    Ok(Some(Body::GroupSds { source, group, pdu }))
 }
 
 /// `rule PREFIX LOW HIGH LIFE KEEP`
-fn rule_body<A: Allocator>(
-    prefix: &[u8],
-    low: &[u8],
-    high: &[u8],
-    lifetime: &[u8],
-    keep: &[u8],
-) -> Result<Body<A>, LineFault>
-    ensures { result ≡ rule_body (result_ok (reading_prefix prefix.now)) (rule_in low.now high.now lifetime.now keep.now) }
+fn rule_body<A: Allocator>(words: &Words<'_>) -> Option<Body<A>>
+    ensures { result ≡ body_in RuleSet (words_in words.now) }
 {
-    let (Ok(prefix), Some(rule)) = (parse_prefix(prefix), rule_in(low, high, lifetime, keep)) else {
-        return Err(LineFault::Value);
+    let (Ok(prefix), Some(rule)) = (parse_prefix(words.at(3)), rule_in(words)) else {
+        return None;
     };
-    Ok(Body::RuleSet { prefix, rule })
+    Some(Body::RuleSet { prefix, rule })
 }
 
 /// `unrule PREFIX`
-fn unrule_body<A: Allocator>(prefix: &[u8]) -> Result<Body<A>, LineFault>
-    ensures { result ≡ saying RuleClear (result_ok (reading_prefix prefix.now)) }
+fn unrule_body<A: Allocator>(words: &Words<'_>) -> Option<Body<A>>
+    ensures { result ≡ body_in RuleClear (words_in words.now) }
 {
-    match parse_prefix(prefix) {
-        Ok(prefix) => Ok(Body::RuleClear { prefix }),
-        Err(_) => Err(LineFault::Value),
+    match parse_prefix(words.at(3)) {
+        Ok(prefix) => Some(Body::RuleClear { prefix }),
+        Err(_) => None,
     }
-}
-
-/// `sent DEST SOURCE REF KIND` or `delete DEST SOURCE REF KIND`
-#[inline(always)]
-pub(crate) fn key_body<A: Allocator>(
-    name: &[u8],
-    destination: &[u8],
-    source: &[u8],
-    reference: &[u8],
-    kind: &[u8],
-) -> Result<Body<A>, LineFault>
-    ensures { result ≡ body_in name.now (destination.now ∷ source.now ∷ reference.now ∷ kind.now ∷ []) }
-{
-    let key = key_in(destination, source, reference, kind);
-    let body = if name == b"sent".as_slice() {
-        key.map(|key| Body::Sent(key))
-    } else if name == b"delete".as_slice() {
-        key.map(|key| Body::Delete(key))
-    } else {
-        return Err(LineFault::Syntax);
-    };
-    body.ok_or(LineFault::Value)
 }
 
 // A moment, or a keep time in seconds.
@@ -311,14 +234,15 @@ fn lifetime_in(word: &[u8]) -> Option<Lifetime>
     }
 }
 
-fn rule_in(low: &[u8], high: &[u8], lifetime: &[u8], keep: &[u8]) -> Option<Rule>
-    ensures { result ≡ rule_in low.now high.now lifetime.now keep.now }
+/// `LOW HIGH LIFE KEEP`, after a prefix
+fn rule_in(words: &Words<'_>) -> Option<Rule>
+    ensures { result ≡ rule_in (word 4 (words_in words.now)) (word 5 (words_in words.now)) (word 6 (words_in words.now)) (word 7 (words_in words.now)) }
 {
     let (Some(low), Some(high), Some(lifetime), Some(keep)) = (
-        area_in(low),
-        area_in(high),
-        lifetime_in(lifetime),
-        seconds_in(keep),
+        area_in(words.at(4)),
+        area_in(words.at(5)),
+        lifetime_in(words.at(6)),
+        seconds_in(words.at(7)),
     ) else {
         return None;
     };
@@ -348,14 +272,15 @@ fn kind_in(word: &[u8]) -> Option<Kind>
 }
 
 /// `DEST SOURCE REF KIND`
-fn key_in(destination: &[u8], source: &[u8], reference: &[u8], kind: &[u8]) -> Option<Key>
-    ensures { result ≡ key_in destination.now source.now reference.now kind.now }
+#[inline(always)]
+fn key_in(words: &Words<'_>) -> Option<Key>
+    ensures { result ≡ key_in (word 3 (words_in words.now)) (word 4 (words_in words.now)) (word 5 (words_in words.now)) (word 6 (words_in words.now)) }
 {
     let (Ok(destination), Ok(source), Some(reference), Some(kind)) = (
-        parse_itsi(destination),
-        parse_itsi(source),
-        reference_in(reference),
-        kind_in(kind),
+        parse_itsi(words.at(3)),
+        parse_itsi(words.at(4)),
+        reference_in(words.at(5)),
+        kind_in(words.at(6)),
     ) else {
         return None;
     };

@@ -1,6 +1,7 @@
 //! The figures of a running service, for the query `service`. Threads share them: the flusher's thread writes those of the store, and
 //! the thread of each station those of its station. No answer but that of `service` depends on them.
-ghost use Rattle.std.specs.Prelude.{◌≤◌};
+ghost use Rattle.std.specs.Prelude.{◌≡◌, IfOk, length, min};
+ghost use Rattle.console.specs.Service.{no_replies, stations_of, with_reply};
 
 use centre_core::Reply;
 use registration::Station;
@@ -47,7 +48,9 @@ pub struct ReplyCounts {
 
 impl ReplyCounts {
     /// None yet.
-    pub fn new() -> ReplyCounts {
+    pub fn new() -> ReplyCounts
+        ensures { result ≡ no_replies }
+    {
         ReplyCounts {
             accepted: 0,
             refused: 0,
@@ -56,7 +59,9 @@ impl ReplyCounts {
     }
 
     /// Counts one more.
-    pub fn add<B: Allocator>(&mut self, reply: &Reply<B>) {
+    pub fn add<B: Allocator>(&mut self, reply: &Reply<B>)
+        ensures { self.new ≡ with_reply self.old reply.now }
+    {
         match reply {
             Reply::Accepted { .. } => self.accepted = self.accepted.saturating_add(1),
             Reply::Kept { .. } => self.kept = self.kept.saturating_add(1),
@@ -115,7 +120,9 @@ pub struct ServiceFigures {
 const MOST_STATIONS: usize = 64;
 
 /// No counts yet, for each of so many stations.
-fn no_counts(alloc: Global, stations: usize) -> Result<Vec<StationCounts>, AllocError> {
+fn no_counts(alloc: Global, stations: usize) -> Result<Vec<StationCounts>, AllocError>
+    ensures { IfOk result (λ counts. length counts.items ≡ stations) }
+{
     let mut counts = Vec::with_capacity(alloc, stations)?;
     for _ in 0..stations {
         counts.push(StationCounts::new())?;
@@ -125,7 +132,9 @@ fn no_counts(alloc: Global, stations: usize) -> Result<Vec<StationCounts>, Alloc
 
 impl ServiceFigures {
     /// Those of a service that begins, over a store with these figures.
-    pub fn new(alloc: Global, stations: usize, store: &StoreFigures) -> Result<Self, AllocError> {
+    pub fn new(alloc: Global, stations: usize, store: &StoreFigures) -> Result<Self, AllocError>
+        ensures { IfOk result (λ figures. stations_of figures ≡ stations) }
+    {
         let counts = no_counts(alloc, stations)?;
         Ok(ServiceFigures {
             rounds: AtomicU64::new(0),
@@ -223,7 +232,7 @@ impl ServiceFigures {
 
     /// How many stations are served.
     pub(crate) fn stations(&self) -> usize
-        ensures { result ≤ 64 }
+        ensures { result ≡ min (stations_of self.now) 64 }
     {
         match &self.stations {
             Some(counts) => counts.len().min(MOST_STATIONS),

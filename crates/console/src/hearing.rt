@@ -39,8 +39,10 @@ fn read_without_orders<A: Allocator>(
     ensures ok { IfOk result (λ said. said ≡ permitted false (reading station line.now)) }
     ensures err { IfErr result (λ unread. sequence_of (permitted {A = A} false (reading station line.now)) ≡ Some unread.sequence) }
 {
-    let said = read_line(alloc, station, line)?;
-    Ok(without_orders(said))
+    match read_line(alloc, station, line) {
+        Ok(said) => Ok(without_orders(said)),
+        Err(unread) => Err(unread),
+    }
 }
 
 /// As `read_line`, but an order is forbidden where the station may give none.

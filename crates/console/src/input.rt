@@ -5,7 +5,7 @@ ghost use Rattle.console.specs.Inside.Feed.{FitsPiece, IsPiece, read_in};
 
 use crate::events::{Events, Note};
 use crate::running::{Piece, RunFault};
-use prefix_tree::Steps;
+use base::Steps;
 use std::io::{ErrorKind, Read};
 use std::sync::ledger::Ledger;
 

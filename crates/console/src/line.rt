@@ -1,14 +1,16 @@
-ghost use Rattle.std.specs.Prelude.{◌≡◌, ◌∷◌, [], Some, Ok, IfOk, IfErr, OnErr, IsSome, option_map, MatchOption, ◌<◌, ◌≤◌, length, map, take, slice_get};
+ghost use Rattle.std.specs.Prelude.{◌≡◌, Some, IfOk, IfErr, OnErr, IsSome};
 ghost use Rattle.centre_core.specs.Ranges.{IsShort, pdu_of};
-ghost use Rattle.console.specs.Reading.{reading, sequence_of, Lacks, words, words_after, of_words, of_word, of_two, body_in, command_line, ask, marked, print};
+ghost use Rattle.console.specs.declared.line.Line.TheVariants.{Apply, Ask, Print, Mark as MarkLine};
+ghost use Rattle.console.specs.Reading.{reading, sequence_of, words, of_words, of_form, command_line, command_of, line_of};
+ghost use Rattle.console.specs.Inside.Left.{bytes_left, words_in};
 
-use crate::body::{Head, head_in, key_body, listing_in, plain_body, query_in, three_body};
+use crate::body::{Head, body_in, head_in, listing_in, query_in};
+use crate::form::{BodyForm, Form, Words, form_of};
 use crate::mark::Mark;
-use crate::marked::read_marked;
-use crate::spaces::whole;
+use crate::spaces::{Rest, whole};
+use crate::split::{split_any, split_marked};
 use centre_core::{Body, Command, Query, Sequence};
-use listings::{Listing, Table};
-use memchr::memchr;
+use listings::Listing;
 use registration::Station;
 use std::alloc::{AllocError, Allocator};
 
@@ -90,130 +92,99 @@ pub(crate) fn read_line<A: Allocator>(
     }
 }
 
-fn first_space(line: &[u8]) -> Option<usize>
-    ensures { MatchOption result (Lacks 32 line.now) (λ at. (at < length line.now) × Lacks 32 (take at line.now) × (slice_get line.now at ≡ Some 32)) }
-{
-    memchr(b' ', line)
-}
-
-/// The first word, and the text after the space that follows it.
-#[inline(always)]
-fn cut(line: &[u8]) -> (&[u8], Option<&[u8]>)
-    ensures { words line.now ≡ result.0.now ∷ words_after (option_map (λ r. r.now) result.1) }
-{
-    match first_space(line) {
-        None => (line, None),
-        Some(at) => (&line[..at], Some(&line[at + 1..])),
-    }
-}
-
-/// The most words that a form has.
-const MOST_WORDS: usize = 8;
-
-/// The words of a line: the first `count` of the places.
-#[derive(Clone, Copy)]
-struct Words<'a> {
-    places: [&'a [u8]; MOST_WORDS],
-    count: usize,
-}
-
-/// The words of a line, if there are no more than a form can have.
-#[inline(always)]
-fn split(line: &[u8]) -> Option<Words<'_>>
-    ensures few { MatchOption result Unit (λ found. found.count ≤ 8) }
-    ensures words { MatchOption result (8 < length (words line.now)) (λ found. map (λ w. w.now) (take found.count found.places) ≡ words line.now) }
-{
-    let mut places = [line; MOST_WORDS];
-    let mut rest = line;
-    for at in 0..MOST_WORDS {
-        let (word, following) = cut(rest);
-        places[at] = word;
-        let Some(following) = following else {
-            return Some(Words {
-                places,
-                count: at + 1,
-            });
-        };
-        rest = following;
-    }
-    None
-}
-
 fn read_text<A: Allocator>(alloc: A, station: Station, line: &[u8]) -> Result<Line<A>, Unread>
     ensures ok { IfOk result (λ said. said ≡ of_words station (words line.now)) }
     ensures err { IfErr result (λ unread. sequence_of (of_words {A = A} station (words line.now)) ≡ Some unread.sequence) }
 {
     match whole(line) {
         Some(rest) => read_marked(alloc, station, rest),
-        None => read_split(alloc, station, line),
+        None => read_any(alloc, station, line),
     }
+}
+
+/// As `read_text`, for a line whose spaces are marked.
+#[inline(always)]
+#[tactic(auto, using(crate::proofs::Forms::many_words))]
+fn read_marked<A: Allocator>(alloc: A, station: Station, line: Rest<'_>) -> Result<Line<A>, Unread>
+    ensures ok { IfOk result (λ said. said ≡ of_words station (words (bytes_left line.entry))) }
+    ensures err { IfErr result (λ unread. sequence_of (of_words {A = A} station (words (bytes_left line.entry))) ≡ Some unread.sequence) }
+{
+    let Some(words) = split_marked(line) else {
+        return Ok(Line::Bad(LineFault::Syntax));
+    };
+    read_words(alloc, station, &words)
 }
 
 /// As `read_text`, for a line of any length.
 #[tactic(auto, using(crate::proofs::Forms::many_words))]
-fn read_split<A: Allocator>(alloc: A, station: Station, line: &[u8]) -> Result<Line<A>, Unread>
+fn read_any<A: Allocator>(alloc: A, station: Station, line: &[u8]) -> Result<Line<A>, Unread>
     ensures ok { IfOk result (λ said. said ≡ of_words station (words line.now)) }
     ensures err { IfErr result (λ unread. sequence_of (of_words {A = A} station (words line.now)) ≡ Some unread.sequence) }
 {
-    match split(line) {
-        Some(words) => read_words(alloc, station, &words.places[..words.count]),
+    match split_any(line) {
+        Some(words) => read_words(alloc, station, &words),
         None => Ok(Line::Bad(LineFault::Syntax)),
     }
 }
 
+/// Finds the form of the words. Only then are they judged.
 #[inline(always)]
-fn read_words<A: Allocator>(alloc: A, station: Station, words: &[&[u8]]) -> Result<Line<A>, Unread>
-    ensures ok { IfOk result (λ said. said ≡ of_words station (map (λ w. w.now) words.now)) }
-    ensures err { IfErr result (λ unread. sequence_of (of_words {A = A} station (map (λ w. w.now) words.now)) ≡ Some unread.sequence) }
+fn read_words<A: Allocator>(
+    alloc: A,
+    station: Station,
+    words: &Words<'_>,
+) -> Result<Line<A>, Unread>
+    ensures ok { IfOk result (λ said. said ≡ of_words station (words_in words.now)) }
+    ensures err { IfErr result (λ unread. sequence_of (of_words {A = A} station (words_in words.now)) ≡ Some unread.sequence) }
 {
-    match words {
-        [] => Ok(Line::Bad(LineFault::Syntax)),
-        [name] => Ok(read_one(station, name)),
-        [name, word] => Ok(read_two(name, word)),
-        [sequence, moment, name, more @ ..] => {
-            read_command(alloc, station, head_in(sequence, moment), name, more)
-        }
-    }
-}
-
-pub(crate) fn read_one<A: Allocator>(station: Station, name: &[u8]) -> Line<A>
-    ensures { result ≡ of_word station name.now }
-{
-    if name == b"count".as_slice() {
-        Line::Ask(Query::Total)
-    } else if name == b"rules".as_slice() {
-        Line::Print(Listing::Entries(Table::Rules))
-    } else if name == b"radios".as_slice() {
-        Line::Print(Listing::Entries(Table::Radios(None)))
-    } else if name == b"items".as_slice() {
-        Line::Print(Listing::Entries(Table::Items))
-    } else if name == b"room".as_slice() {
-        Line::Print(Listing::Room)
-    } else if name == b"dump".as_slice() {
-        Line::Print(Listing::Dump)
-    } else if name == b"station".as_slice() {
-        Line::OwnStation(station)
-    } else if name == b"service".as_slice() {
-        Line::Service
+    if let Some(form) = form_of(words.keyword(), words.count) {
+        read_form(alloc, station, form, words)
     } else {
-        Line::Bad(LineFault::Syntax)
+        Ok(Line::Bad(LineFault::Syntax))
     }
 }
 
-pub(crate) fn read_two<A: Allocator>(name: &[u8], word: &[u8]) -> Line<A>
-    ensures { result ≡ of_two name.now word.now }
+/// Judges words of this form.
+#[inline(always)]
+fn read_form<A: Allocator>(
+    alloc: A,
+    station: Station,
+    form: Form,
+    words: &Words<'_>,
+) -> Result<Line<A>, Unread>
+    ensures ok { IfOk result (λ said. said ≡ of_form station form (words_in words.now)) }
+    ensures err { IfErr result (λ unread. sequence_of (of_form {A = A} station form (words_in words.now)) ≡ Some unread.sequence) }
 {
-    if name == b"mark".as_slice() {
-        return marked(Mark::new(word));
-    }
-    match listing_in(name, word) {
-        Some(listing) => print(listing),
-        None => ask(query_in(name, word)),
+    match form {
+        Form::Apply(form) => read_command(alloc, station, form, words),
+        Form::Ask(form) => Ok(query_line(query_in(form, words))),
+        Form::Print(form) => Ok(listing_line(listing_in(form, words))),
+        Form::Mark => Ok(mark_line(Mark::new(words.at(1)))),
+        Form::OwnStation => Ok(Line::OwnStation(station)),
+        Form::Service => Ok(Line::Service),
     }
 }
 
-fn marked<A: Allocator>(mark: Option<Mark>) -> Line<A>
-    ensures { result ≡ marked mark }
+fn query_line<A: Allocator>(query: Option<Query>) -> Line<A>
+    ensures { result ≡ line_of Ask query }
+{
+    match query {
+        Some(query) => Line::Ask(query),
+        None => Line::Bad(LineFault::Value),
+    }
+}
+
+fn listing_line<A: Allocator>(listing: Option<Listing>) -> Line<A>
+    ensures { result ≡ line_of Print listing }
+{
+    match listing {
+        Some(listing) => Line::Print(listing),
+        None => Line::Bad(LineFault::Value),
+    }
+}
+
+fn mark_line<A: Allocator>(mark: Option<Mark>) -> Line<A>
+    ensures { result ≡ line_of MarkLine mark }
 {
     match mark {
         Some(mark) => Line::Mark(mark),
@@ -221,134 +192,38 @@ fn marked<A: Allocator>(mark: Option<Mark>) -> Line<A>
     }
 }
 
-fn print<A: Allocator>(listing: Result<Listing, LineFault>) -> Line<A>
-    ensures { result ≡ print listing }
-{
-    match listing {
-        Ok(listing) => Line::Print(listing),
-        Err(fault) => Line::Bad(fault),
-    }
-}
-
-fn ask<A: Allocator>(query: Result<Query, LineFault>) -> Line<A>
-    ensures { result ≡ ask query }
-{
-    match query {
-        Ok(query) => Line::Ask(query),
-        Err(fault) => Line::Bad(fault),
-    }
-}
-
-/// A command with this body, if its head is good.
+/// Judges the words of a command.
 #[inline(always)]
-fn command_of<A: Allocator>(station: Station, head: Option<Head>, body: Body<A>) -> Line<A>
-    requires { IsShort (pdu_of body) }
-    ensures { result ≡ command_line station head (Ok body) }
+#[tactic(auto, using(crate::proofs::Forms::unread))]
+fn read_command<A: Allocator>(
+    alloc: A,
+    station: Station,
+    form: BodyForm,
+    words: &Words<'_>,
+) -> Result<Line<A>, Unread>
+    ensures ok { IfOk result (λ said. said ≡ command_line station form (words_in words.now)) }
+    ensures err { IfErr result (λ unread. sequence_of (command_line {A = A} station form (words_in words.now)) ≡ Some unread.sequence) }
 {
-    let Some(Head { sequence, moment }) = head else {
-        return Line::Bad(LineFault::Value);
+    let Some(head) = head_in(words.at(0), words.at(1)) else {
+        return Ok(Line::Bad(LineFault::Value));
     };
-    match Command::new(station, sequence, moment, body) {
+    match body_in(alloc, form, words) {
+        Ok(Some(body)) => Ok(line_of_command(station, head, body)),
+        Ok(None) => Ok(Line::Bad(LineFault::Value)),
+        Err(AllocError) => Err(Unread {
+            sequence: head.sequence,
+        }),
+    }
+}
+
+/// A command with this body.
+#[inline(always)]
+fn line_of_command<A: Allocator>(station: Station, head: Head, body: Body<A>) -> Line<A>
+    requires { IsShort (pdu_of body) }
+    ensures { result ≡ line_of Apply (command_of station (Some head) (Some body)) }
+{
+    match Command::new(station, head.sequence, head.moment, body) {
         Some(command) => Line::Apply(command),
         None => Line::Bad(LineFault::Value),
-    }
-}
-
-/// A command with this body, or a bad line.
-#[inline(always)]
-fn command_line<A: Allocator>(
-    station: Station,
-    head: Option<Head>,
-    body: Result<Body<A>, LineFault>,
-) -> Line<A>
-    requires { IfOk body (λ body. IsShort (pdu_of body)) }
-    ensures { result ≡ command_line station head body }
-{
-    match body {
-        Ok(body) => command_of(station, head, body),
-        Err(fault) => Line::Bad(fault),
-    }
-}
-
-/// The three words after the name of a command that a radio sends: two of its parts, and its PDU.
-#[derive(Clone, Copy)]
-pub(crate) struct Three<'a> {
-    pub(crate) first: &'a [u8],
-    pub(crate) second: &'a [u8],
-    pub(crate) pdu: &'a [u8],
-}
-
-/// Reads a command with three words after its name.
-#[inline(always)]
-#[tactic(auto, using(crate::proofs::Forms::unread, crate::proofs::Forms::headless))]
-pub(crate) fn read_three<A: Allocator>(
-    alloc: A,
-    station: Station,
-    head: Option<Head>,
-    name: &[u8],
-    words: Three<'_>,
-) -> Result<Line<A>, Unread>
-    ensures ok { IfOk result (λ said. said ≡ command_line station head (body_in name.now (words.entry.first.now ∷ words.entry.second.now ∷ words.entry.pdu.now ∷ []))) }
-    ensures err { IfErr result (λ unread.
-        sequence_of (command_line {A = A} station head (body_in name.now (words.entry.first.now ∷ words.entry.second.now ∷ words.entry.pdu.now ∷ []))) ≡ Some unread.sequence) }
-{
-    match (
-        head,
-        three_body(alloc, name, words.first, words.second, words.pdu),
-    ) {
-        (head, Ok(body)) => Ok(command_line(station, head, body)),
-        (None, Err(AllocError)) => Ok(Line::Bad(LineFault::Value)),
-        (Some(Head { sequence, .. }), Err(AllocError)) => Err(Unread { sequence }),
-    }
-}
-
-/// The four words after the name of a command for a message that is kept: those of its key.
-#[derive(Clone, Copy)]
-pub(crate) struct Four<'a> {
-    pub(crate) destination: &'a [u8],
-    pub(crate) source: &'a [u8],
-    pub(crate) reference: &'a [u8],
-    pub(crate) kind: &'a [u8],
-}
-
-/// Reads a command with four words after its name.
-pub(crate) fn read_four<A: Allocator>(
-    station: Station,
-    head: Option<Head>,
-    name: &[u8],
-    words: Four<'_>,
-) -> Line<A>
-    ensures { result ≡ command_line station head
-        (body_in name.now (words.entry.destination.now ∷ words.entry.source.now ∷ words.entry.reference.now ∷ words.entry.kind.now ∷ [])) }
-{
-    let body = key_body(
-        name,
-        words.destination,
-        words.source,
-        words.reference,
-        words.kind,
-    );
-    command_line(station, head, body)
-}
-
-/// Reads a command from the word on that names its form.
-#[tactic(auto, using(crate::proofs::Forms::body_short))]
-pub(crate) fn read_command<A: Allocator>(
-    alloc: A,
-    station: Station,
-    head: Option<Head>,
-    name: &[u8],
-    words: &[&[u8]],
-) -> Result<Line<A>, Unread>
-    ensures ok { IfOk result (λ said. said ≡ command_line station head (body_in name.now (map (λ w. w.now) words.now))) }
-    ensures err { IfErr result (λ unread.
-        sequence_of (command_line {A = A} station head (body_in name.now (map (λ w. w.now) words.now))) ≡ Some unread.sequence) }
-{
-    match words {
-        [first, second, pdu] => {
-            let words = Three { first, second, pdu };
-            read_three(alloc, station, head, name, words)
-        }
-        _ => Ok(command_line(station, head, plain_body(name, words))),
     }
 }

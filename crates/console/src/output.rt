@@ -6,7 +6,7 @@ ghost use Rattle.console.specs.Inside.Passing.{Passes, sent_by};
 
 use crate::events::{Events, Note};
 use crate::running::RunFault;
-use prefix_tree::Steps;
+use base::Steps;
 use std::io::{ErrorKind, Write};
 use std::sync::ledger::Ledger;
 

@@ -2,8 +2,8 @@
 
 use crate::answered::are_answered;
 use crate::limits::usual;
+use base::TryCopy;
 use centre_core::Register;
-use prefix_tree::TryCopy;
 use std::alloc::Global;
 
 const BEFORE: (&str, &str) = (

@@ -21,7 +21,7 @@ struct FailingDesk<A: Allocator> {
     failures: u64,
 }
 
-impl<A: Allocator + Copy, B: Allocator + Clone> Desk<A> for FailingDesk<B> {
+impl<A: Allocator + Copy, B: Allocator + Copy> Desk<A> for FailingDesk<B> {
     ghost World = { Stored };
 
     ghost world = { λ desk. record { register = desk.register; broken = desk.broken; failures = desk.failures; last = true } };

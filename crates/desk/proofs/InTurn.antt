@@ -1,17 +1,10 @@
 -- Commands that a desk carries out one after another.
-use Rattle.std.proofs.Common.{◌≡◌, ◌+◌, ◌<◌, ℕ, suc, List, [], ◌∷◌, ◌++◌, get_or, length, take, refl, ap, sym, ◌∙◌, subst, arith}
-use Rattle.std.proofs.Math.Seq.{take-suc}
+use Rattle.std.proofs.Common.{List, [], ◌∷◌, ◌++◌, refl, subst}
 use Rattle.std.specs.Prelude.{Result}
 use Rattle.centre_core.specs.declared.command.Command.{Command}
 use Rattle.centre_core.specs.declared.reply.Reply.{Reply}
 use Rattle.desk.specs.declared.outage.Outage.{Outage}
 use Rattle.desk.specs.Rules.{AreApplied, Rules}
-
--- the first so many, and the next one
-pub take_one : {X : Type 0} (xs : List X) (k : ℕ) (x : X) → k < length xs → x ≡ get_or xs k x → take (k + 1) xs ≡ take k xs ++ x ∷ []
-take_one xs k x lt is =
-    let next : k + 1 ≡ suc k = omega arith in
-    ap (λ n. take n xs) next ∙ take-suc xs k x lt ∙ ap (λ z. take k xs ++ z ∷ []) (sym is)
 
 -- one command more
 pub applied_more : {A W : Type 0} (rules : Rules A W) (cs : List (Command A)) (c : Command A) (s mid t : W) (rs : List (Result (Reply A) Outage)) (r : Result (Reply A) Outage) →

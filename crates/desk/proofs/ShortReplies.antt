@@ -1,6 +1,6 @@
 -- The PDU of each reply of a register is short.
 use Rattle.std.proofs.Common.{◌≡◌, ℕ, zero, suc, ◌+◌, ◌≤◌, Bool, true, false, List, [], ◌∷◌, ◌++◌, length, refl, ap, sym, ◌∙◌, subst, arith, Option, Some, None, Result, Ok, Err}
-use Rattle.std.specs.Prelude.{◌==◌, nat_lt, if◌then◌else◌, slice_index_or, IfSome, IfOk}
+use Rattle.std.specs.Prelude.{◌==◌, nat_lt, if◌then◌else◌, slice_index_or, IfSome}
 use Rattle.std.specs.Option.{option_map}
 use Rattle.std.specs.List.{All}
 use Rattle.std.proofs.lemmas.List.{length-append}
@@ -71,13 +71,15 @@ module _ (B : Type 0) where
   by_test false x y h k = k
 
   module _ {A : Type 0} (s : State) (c : Command A) where
-    made : {F : Type 0} (new : State) (pdu : Option (List Bool)) (name : F → Refusal B) (refusal : Option F) → IsReply pdu → ((fault : F) → HasShortReject (name fault)) → RepliesShort (step_made s c new pdu (option_map name refusal))
+    made : {F : Type 0} (new : State) (pdu : Option (List Bool)) (name : F → Refusal B) (refusal : Option F) → IsReply pdu →
+        ((fault : F) → HasShortReject (name fault)) → RepliesShort (step_made s c new pdu (option_map name refusal))
     made new pdu name None reply short = short_reply pdu reply
     made new pdu name (Some fault) reply short = short fault
 
     mm_short : (itsi area : ℕ) (pdu : List Bool) (read : Result (MmUp B) MmFault) → reading_up pdu ≡ read → RepliesShort (step_mm s c itsi area read)
     mm_short itsi area pdu (Err fault) is = tt
-    mm_short itsi area pdu (Ok (up.Demand update)) is = made _ _ (location_refusal update) (locate_refusal s.registered itsi area update) (accept_fits (accept_of update)) (λ fault. reject_short update fault (cause_of fault))
+    mm_short itsi area pdu (Ok (up.Demand update)) is = made _ _ (location_refusal update) (locate_refusal s.registered itsi area update)
+        (accept_fits (accept_of update)) (λ fault. reject_short update fault (cause_of fault))
     mm_short itsi area pdu (Ok up.Detach) is = made _ None Registration (detach_refusal s.registered itsi) tt (λ fault. tt)
     mm_short itsi area pdu (Ok (up.Groups mode items)) is =
         let groups = groups_read {A = B} pdu mode items is in
@@ -121,7 +123,3 @@ module _ (B : Type 0) where
     -- so of what is answered where a register does the command
     pub replied_short : (t : State) (reply : Reply B) → (t, reply) ≡ step s c → StateInRange s → HasShortPdu reply
     replied_short t reply is range = subst HasShortPdu (sym (ap (λ (r : State × Reply B). r.1) is)) (step_short range)
-
-    pub result_short : {E : Type 0} (t : State) (result : Result (Reply B) E) → IfOk result (λ reply. (t, reply) ≡ step s c) → StateInRange s → IfOk result HasShortPdu
-    result_short t (Ok reply) is range = replied_short t reply is range
-    result_short t (Err e) is range = tt

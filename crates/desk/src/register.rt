@@ -9,7 +9,7 @@ use centre_core::{Command, Query, QueryAnswer, Register, Reply};
 use listings::{Listing, print_listing};
 use std::alloc::Allocator;
 
-impl<A: Allocator + Copy, B: Allocator + Clone> Desk<A> for Register<B> {
+impl<A: Allocator + Copy, B: Allocator + Copy> Desk<A> for Register<B> {
     ghost World = { State };
 
     ghost world = { λ register. register };

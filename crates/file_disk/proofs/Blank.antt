@@ -16,17 +16,21 @@ abbrev pub zeros : ℕ → List ℕ
 zeros k = replicate 512 0
 
 -- one sector of zeros more
-pub one_more : (old mid new : View) (at k : ℕ) (result : Result Unit DiskError) → HasFilled old mid at k zeros (Ok tt) → HasWritten mid new (at + k) (replicate 512 0) result → IsSound mid → at + k < mid.sectors → HasFilled old new at (k + 1) zeros result
+pub one_more : (old mid new : View) (at k : ℕ) (result : Result Unit DiskError) → HasFilled old mid at k zeros (Ok tt) →
+    HasWritten mid new (at + k) (replicate 512 0) result → IsSound mid → at + k < mid.sectors → HasFilled old new at (k + 1) zeros result
 one_more old mid new at k result filled wrote sound inside = fill_more old mid new at k zeros (replicate 512 0) result filled wrote refl sound inside
 
 -- ---- one run after another
 
 -- a run of zeros and the next one
-joined : (old mid new : View) (at m n : ℕ) (result : Result Unit DiskError) → HasFilled old mid at m zeros (Ok tt) → HasFilled mid new (at + m) n zeros result → HasFilled old new at (m + n) zeros result
+joined : (old mid new : View) (at m n : ℕ) (result : Result Unit DiskError) → HasFilled old mid at m zeros (Ok tt) →
+    HasFilled mid new (at + m) n zeros result → HasFilled old new at (m + n) zeros result
 joined old mid new at m n result filled more =
     record {
       honest = more.honest;
-      crash = run_on old mid new (IsTornImage old at (m + n)) (IsTornImage mid (at + m) n) (weaker old mid (IsTornImage old at m) (IsTornImage old at (m + n)) filled.crash (torn_wider old at m (m + n) (omega arith))) more.crash torn;
+      crash = run_on old mid new (IsTornImage old at (m + n)) (IsTornImage mid (at + m) n)
+          (weaker old mid (IsTornImage old at m) (IsTornImage old at (m + n)) filled.crash (torn_wider old at m (m + n) (omega arith))) more.crash
+          torn;
       now = λ image is. torn image (more.now image is);
       count = more.count ∙ filled.count;
       others = λ k out. more.others k (outside k out) ∙ filled.others k (within k out);
@@ -65,13 +69,15 @@ joined old mid new at m n result filled more =
     written (Err e) none = tt
 
 -- a run of zeros goes on by another one
-pub zeros_on : (old mid new : View) (at m place n : ℕ) (result : Result Unit DiskError) → place ≡ at + m → HasFilled old mid at m zeros (Ok tt) → HasFilled mid new place n zeros result → HasFilled old new at (m + n) zeros result
+pub zeros_on : (old mid new : View) (at m place n : ℕ) (result : Result Unit DiskError) → place ≡ at + m → HasFilled old mid at m zeros (Ok tt) →
+    HasFilled mid new place n zeros result → HasFilled old new at (m + n) zeros result
 zeros_on old mid new at m place n result is filled after =
     let more : HasFilled mid new (at + m) n zeros result = rw (← is) after in
     joined old mid new at m n result filled more
 
 -- a run of zeros over what a run that failed has left
-pub zeros_again : (old mid new : View) (at n : ℕ) (bytes : ℕ → List ℕ) (first result : Result Unit DiskError) → HasFilled old mid at n bytes first → HasFilled mid new at n zeros result → HasFilled old new at n zeros result
+pub zeros_again : (old mid new : View) (at n : ℕ) (bytes : ℕ → List ℕ) (first result : Result Unit DiskError) → HasFilled old mid at n bytes first →
+    HasFilled mid new at n zeros result → HasFilled old new at n zeros result
 zeros_again old mid new at n bytes first result filled more =
     record {
       honest = more.honest;
@@ -101,7 +107,8 @@ piece_written zeros_of k are lt =
     rw (are, drop-replicate {X = ℕ} (512 * k) 65536 0, take-replicate {X = ℕ} 512 (65536 - 512 * k) 0 room) refl
 
 -- all bytes of a piece have been written
-pub piece_of_zeros : (old new : View) (at : ℕ) (bytes : List ℕ) (result : Result Unit DiskError) → bytes ≡ replicate 65536 0 → HasFilled old new at 128 (λ k. take 512 (drop (512 * k) bytes)) result → HasFilled old new at 128 zeros result
+pub piece_of_zeros : (old new : View) (at : ℕ) (bytes : List ℕ) (result : Result Unit DiskError) → bytes ≡ replicate 65536 0 →
+    HasFilled old new at 128 (λ k. take 512 (drop (512 * k) bytes)) result → HasFilled old new at 128 zeros result
 piece_of_zeros old new at bytes result are filled = record {
   honest = filled.honest;
   crash = filled.crash;
@@ -111,18 +118,23 @@ piece_of_zeros old new at bytes result are filled = record {
   written = written result filled.written;
 }
   where
-    written : (outcome : Result Unit DiskError) → OnOk outcome ((j : ℕ) → j < 128 → sector new.reads (at + j) ≡ take 512 (drop (512 * j) bytes)) → OnOk outcome ((j : ℕ) → j < 128 → sector new.reads (at + j) ≡ zeros j)
+    written : (outcome : Result Unit DiskError) → OnOk outcome ((j : ℕ) → j < 128 → sector new.reads (at + j) ≡ take 512 (drop (512 * j) bytes)) →
+        OnOk outcome ((j : ℕ) → j < 128 → sector new.reads (at + j) ≡ zeros j)
     written (Ok u) there = λ j lt. there j lt ∙ piece_written bytes j are lt
     written (Err e) none = tt
 
-pub piece_done : (old new : View) (at : ℕ) (bytes : List ℕ) (r : Result ℕ DiskError) (written : ℕ) → bytes ≡ replicate 65536 0 → HasWrittenSectors old new at 128 bytes r → r ≡ Ok written → written ≡ 65536 → HasFilled old new at 128 zeros (Ok tt)
+pub piece_done : (old new : View) (at : ℕ) (bytes : List ℕ) (r : Result ℕ DiskError) (written : ℕ) → bytes ≡ replicate 65536 0 →
+    HasWrittenSectors old new at 128 bytes r → r ≡ Ok written → written ≡ 65536 → HasFilled old new at 128 zeros (Ok tt)
 piece_done old new at bytes r written are filled is all =
     let whole : r ≡ Ok 65536 = rw (← all) is in
     let done : HasFilled old new at 128 (λ k. take 512 (drop (512 * k) bytes)) (Ok tt) = subst (λ (one : Result ℕ DiskError). HasWrittenSectors old new at 128 bytes one) whole filled in
     piece_of_zeros old new at bytes (Ok tt) are done
 
-pub piece_failed : (old new : View) (at : ℕ) (bytes : List ℕ) (first result : Result Unit DiskError) → bytes ≡ replicate 65536 0 → IsErr result → HasFilled old new at 128 (λ k. take 512 (drop (512 * k) bytes)) first → HasFilled old new at 128 zeros result
-piece_failed old new at bytes first result are err filled = piece_of_zeros old new at bytes result are (fill_wider old new at 128 128 (λ k. take 512 (drop (512 * k) bytes)) first result err (omega arith) filled)
+pub piece_failed : (old new : View) (at : ℕ) (bytes : List ℕ) (first result : Result Unit DiskError) → bytes ≡ replicate 65536 0 → IsErr result →
+    HasFilled old new at 128 (λ k. take 512 (drop (512 * k) bytes)) first → HasFilled old new at 128 zeros result
+piece_failed old new at bytes first result are err filled =
+    piece_of_zeros old new at bytes result are
+    (fill_wider old new at 128 128 (λ k. take 512 (drop (512 * k) bytes)) first result err (omega arith) filled)
 
 module _ {F : Type 0} (view : F → View) (opened filled synced : FileDisk F) where
   pub blanked : (file : F) → (view file).honest → opened.file ≡ file → opened.sectors ≡ (view file).sectors → filled.sectors ≡ opened.sectors → synced.sectors ≡ filled.sectors

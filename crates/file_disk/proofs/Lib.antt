@@ -1,3 +1,4 @@
 mod Blank
+mod GivenUp
 mod Parts
 mod Walks

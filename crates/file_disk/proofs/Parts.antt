@@ -1,5 +1,6 @@
 -- A sector that is moved part by part.
-use Rattle.std.proofs.Common.{◌≡◌, ◌⊎◌, inl, inr, ⊎_elim, ℕ, ◌+◌, ◌-◌, ◌^◌, ◌<◌, ◌≤◌, ◌==◌, Bool, true, false, List, ◌++◌, length, take, drop, if◌then◌else◌, Result, Ok, Err, refl, sym, ap, ◌∙◌, arith}
+use Rattle.std.proofs.Common.{◌≡◌, ◌⊎◌, inl, inr, ⊎_elim, ℕ, ◌+◌, ◌-◌, ◌^◌, ◌<◌, ◌≤◌, ◌==◌, Bool, true, false, List, ◌++◌, length, take, drop}
+use Rattle.std.proofs.Common.{if◌then◌else◌, Result, Ok, Err, refl, sym, ap, ◌∙◌, arith}
 use Rattle.std.specs.Result.{IfOk, IsErr}
 use Rattle.std.specs.Io.{ReadsAtMost}
 use Rattle.std.specs.IoError.{error_kind}
@@ -8,12 +9,12 @@ use Rattle.std.proofs.Math.Seq.{take-add, drop-append_seam}
 use Rattle.std.proofs.lemmas.List.{length-take-le, take-append-le, take_all}
 use Rattle.std.proofs.lemmas.Bool.{cases_eq, cases_lt, true≢false}
 use Rattle.std.proofs.lemmas.Result.{IfOk-from_err}
-use Rattle.sector_disk.specs.Disk.{View, HasCause, HasFailed, HasRead, HasWritten, IsImageOf, IsSound, sector}
+use Rattle.sector_disk.specs.Disk.{View, HasCause, HasRead, HasWritten, IsImageOf, IsSound, sector}
 use Rattle.sector_disk.specs.Run.{HasOnlyRead}
 use Rattle.sector_disk.specs.declared.disk.DiskError.{DiskError}
 use Rattle.sector_disk.specs.declared.disk.DiskError.TheVariants.{DiskFault}
 use Rattle.sector_disk.proofs.OnlyRead.{only_read_on}
-use Rattle.file_disk.specs.File.{HasGivenUp, HasReadPart, HasWrittenPart, HaveTurned, is_interrupted, moved, one_more}
+use Rattle.file_disk.specs.File.{HasReadPart, HasWrittenPart, HaveTurned, is_interrupted, moved, one_more}
 
 -- ---- how much a call moves
 
@@ -52,10 +53,6 @@ one_call old mid new before turns after calls r gone cause is = record {
   ];
 }
 
-pub failed_at_last : (old mid new : View) (before turns calls after : ℕ) → HasGoneOn old mid before turns calls → HasFailed mid new → HasGivenUp old new before after
-failed_at_last old mid new before turns calls after gone (inl more) = inl (inl (omega (arith, more, gone.failures)))
-failed_at_last old mid new before turns calls after gone (inr full) = inl (inr full)
-
 -- ---- reading
 
 pub read_after : (old new : View) (at done : ℕ) (b x y : List ℕ) (r : Result ℕ Error) → done ≤ length b → ReadsAtMost r x → HasReadPart old new at done x (moved r)
@@ -65,7 +62,8 @@ read_after old new at done b x y r le bound read =
     ap (λ n. drop n (take done b ++ (x ++ y))) (sym (length-take-le done b le)) ∙ drop-append_seam (take done b) (x ++ y) in
     rw seam (record { only_read = read.only_read; given = given (moved r) (read_at_most x r bound) read.given })
   where
-    given : (m : Result ℕ DiskError) → IfOk m (λ n. n ≤ length x) → IfOk m (λ n. take n x ≡ take n (drop done (sector old.reads at))) → IfOk m (λ n. take n (x ++ y) ≡ take n (drop done (sector old.reads at)))
+    given : (m : Result ℕ DiskError) → IfOk m (λ n. n ≤ length x) → IfOk m (λ n. take n x ≡ take n (drop done (sector old.reads at))) →
+        IfOk m (λ n. take n (x ++ y) ≡ take n (drop done (sector old.reads at)))
     given (Ok n) small is = take-append-le n x y small ∙ is
     given (Err e) small is = tt
 
@@ -73,7 +71,8 @@ read_after old new at done b x y r le bound read =
 abbrev pub IsPrefix : List ℕ → List ℕ → ℕ → Type 0
 IsPrefix bytes whole done = take done bytes ≡ take done whole
 
-pub prefix_on : (bytes was whole : List ℕ) (done n : ℕ) → IsPrefix was whole done → take done bytes ≡ take done was → take n (drop done bytes) ≡ take n (drop done whole) → IsPrefix bytes whole (done + n)
+pub prefix_on : (bytes was whole : List ℕ) (done n : ℕ) → IsPrefix was whole done → take done bytes ≡ take done was →
+    take n (drop done bytes) ≡ take n (drop done whole) → IsPrefix bytes whole (done + n)
 prefix_on bytes was whole done n prefix same more =
     take-add done n bytes ∙ ap (λ (l : List ℕ). l ++ take n (drop done bytes)) (same ∙ prefix) ∙ ap (λ (l : List ℕ). take done whole ++ l) more ∙ sym (take-add done n whole)
 
@@ -82,20 +81,23 @@ whole_prefix bytes whole done prefix all size_bytes size_whole =
     sym (take_all done bytes (omega (arith, all, size_bytes))) ∙ prefix ∙ take_all done whole (omega (arith, all, size_whole))
 
 -- one call more
-pub read_on : (old mid new : View) (at done n : ℕ) (was bytes : List ℕ) → HasOnlyRead old mid → IsPrefix was (sector old.reads at) done → take done bytes ≡ take done was → HasReadPart mid new at done (drop done bytes) (Ok n)
+pub read_on : (old mid new : View) (at done n : ℕ) (was bytes : List ℕ) → HasOnlyRead old mid → IsPrefix was (sector old.reads at) done →
+    take done bytes ≡ take done was → HasReadPart mid new at done (drop done bytes) (Ok n)
     → HasOnlyRead old new × IsPrefix bytes (sector old.reads at) (done + n)
 read_on old mid new at done n was bytes only_read prefix same read =
     let given : take n (drop done bytes) ≡ take n (drop done (sector old.reads at)) = rw (← only_read.reads) read.given in
     (only_read_on old mid new only_read read.only_read, prefix_on bytes was (sector old.reads at) done n prefix same given)
 
 -- the last one failed
-pub read_failed : (old mid new : View) (at done : ℕ) (some bytes : List ℕ) (r : Result ℕ DiskError) (result : Result Unit DiskError) → HasOnlyRead old mid → HasReadPart mid new at done some r → IsErr result → HasRead old new at bytes result
+pub read_failed : (old mid new : View) (at done : ℕ) (some bytes : List ℕ) (r : Result ℕ DiskError) (result : Result Unit DiskError) →
+    HasOnlyRead old mid → HasReadPart mid new at done some r → IsErr result → HasRead old new at bytes result
 read_failed old mid new at done some bytes r result only_read read err =
     let all : HasOnlyRead old new = only_read_on old mid new only_read read.only_read in
     record { honest = all.honest; time = all.time; reads = all.reads; pending = all.pending; given = IfOk-from_err result (λ u. bytes ≡ sector old.reads at) err }
 
 -- the sector has been read whole
-pub read_whole : (old new : View) (at done : ℕ) (bytes : List ℕ) → HasOnlyRead old new × IsPrefix bytes (sector old.reads at) done → done ≡ 512 → length bytes ≡ 512 → IsSound old → at < old.sectors → HasRead old new at bytes (Ok tt)
+pub read_whole : (old new : View) (at done : ℕ) (bytes : List ℕ) → HasOnlyRead old new × IsPrefix bytes (sector old.reads at) done → done ≡ 512 →
+    length bytes ≡ 512 → IsSound old → at < old.sectors → HasRead old new at bytes (Ok tt)
 read_whole old new at done bytes (only_read, prefix) all size sound within = record {
   honest = only_read.honest;
   time = only_read.time;
@@ -112,21 +114,6 @@ module _ (at : ℕ) (bytes : List ℕ) where
     pub rest : HasWritten old now at bytes (Err DiskFault)
     pub prefix : IsPrefix (sector now.reads at) bytes done
     pub marked : (now.pending at ≡ true) ⊎ ((done ≡ 0) × (sector now.reads at ≡ sector old.reads at))
-
-  pub nothing_put : (file : View) → file.honest → HasPut file file 0
-  nothing_put file honest = record {
-    rest = record {
-      honest = honest;
-      time = record { later = omega arith; each_stays = λ t image le was. was; nothing_else = λ t image le was. inl was };
-      count = refl;
-      others = λ k other. refl;
-      others_pending = λ k other. refl;
-      still_pending = λ is. is;
-      written = tt;
-    };
-    prefix = refl;
-    marked = inr (refl, refl);
-  }
 
   not_both : {b : Bool} → b ≡ true → b ≡ false → ⊥
   not_both on off = true≢false (sym on ∙ off)
@@ -208,7 +195,8 @@ module _ (at : ℕ) (bytes : List ℕ) where
   }
 
   -- the last one failed
-  pub put_failed : (old mid new : View) (done : ℕ) (r : Result ℕ DiskError) (result : Result Unit DiskError) → IsSound old → HasPut old mid done → HasWrittenPart mid new at done (drop done bytes) r → IsErr result → HasWritten old new at bytes result
+  pub put_failed : (old mid new : View) (done : ℕ) (r : Result ℕ DiskError) (result : Result Unit DiskError) → IsSound old → HasPut old mid done →
+      HasWrittenPart mid new at done (drop done bytes) r → IsErr result → HasWritten old new at bytes result
   put_failed old mid new done r result sound put wrote err =
       let rest : HasWritten mid new at bytes (Err DiskFault) = record {
         honest = wrote.rest.honest;

@@ -1,5 +1,5 @@
 -- Why a file is not taken as a disk.
-use Rattle.std.specs.Prelude.{◌≡◌, Bool, true, false, if◌then◌else◌}
+use Rattle.std.specs.Prelude.{◌≡◌, Bool, true, false, if◌then◌else◌, Option, Some, None}
 use Rattle.std.specs.IoError.{error_kind}
 use Rattle.std.specs.declared.fs.TryLockError.{TryLockError}
 use Rattle.std.specs.declared.fs.TryLockError.TheVariants as lock
@@ -7,7 +7,7 @@ use Rattle.std.specs.declared.io.Error.{Error}
 use Rattle.std.specs.declared.io.ErrorKind.{ErrorKind}
 use Rattle.std.specs.declared.io.ErrorKind.TheVariants.{AlreadyExists, IsADirectory, NotADirectory, NotFound, OutOfMemory, PermissionDenied, QuotaExceeded, ReadOnlyFilesystem, StorageFull}
 use Rattle.file_disk.specs.declared.fault.FileFault.{FileFault}
-use Rattle.file_disk.specs.declared.fault.FileFault.TheVariants.{DiskFault, KeepsNothing, NoMemory, NotOpened}
+use Rattle.file_disk.specs.declared.fault.FileFault.TheVariants.{DiskFault, NoMemory, NotOpened}
 use Rattle.file_disk.specs.declared.fault.OpenCause.{OpenCause}
 use Rattle.file_disk.specs.declared.fault.OpenCause.TheVariants.{Exists, Held, Missing, NoSpace, NotAFile, NotAllowed, Other}
 
@@ -46,6 +46,11 @@ of_making StorageFull = NotOpened NoSpace
 of_making QuotaExceeded = NotOpened NoSpace
 of_making OutOfMemory = NoMemory
 of_making _ = DiskFault
+
+-- the fault for what the last failure of a new file was, as it got its sectors
+abbrev pub of_last : Option ErrorKind → FileFault
+of_last None = DiskFault
+of_last (Some kind) = of_making kind
 
 -- the fault for a lock that was refused: another process holds it, or the call failed
 abbrev pub of_lock : TryLockError → FileFault

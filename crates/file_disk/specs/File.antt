@@ -42,6 +42,13 @@ most_calls = 1024
 abbrev pub HasGivenUp : View → View → ℕ → ℕ → Type 0
 HasGivenUp old new turns_before turns_after = HasFailed old new ⊎ HaveTurned most_calls turns_before turns_after
 
+-- Between old and new a file was given up: a call of it has failed, or 1,024 of them were not enough for one sector.
+pub record IsGivenUp {F : Type 0} (view : F → View) (turns : F → ℕ) (old new : F) : Type 0 where
+  -- the file before the last sector or sync
+  pub mid : F
+  pub later : (view old).failures ≤ (view mid).failures
+  pub given_up : HasGivenUp (view mid) (view new) (turns mid) (turns new)
+
 -- A read gives bytes of the sector, from the byte `from` on, and changes no image.
 pub record HasReadPart (old new : View) (at : Sector) (from : Bytes) (bytes : List Byte) (result : Result Bytes DiskError) : Type 0 where
   pub only_read : HasOnlyRead old new

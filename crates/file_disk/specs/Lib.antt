@@ -3,3 +3,4 @@ pub mod Fault
 pub mod File
 pub mod Host
 pub mod Inside
+pub mod Reasons

@@ -1,5 +1,5 @@
 // A disk over a file.
-ghost use Rattle.std.specs.Prelude.{◌≡◌, ◌⊎◌, ◌<◌, ◌≤◌, ◌+◌, ◌-◌, ◌*◌, ◌/◌, ◌^◌, ◌++◌, true, false, Err, IfOk, IsErrOf, OnOk, is_err, replicate};
+ghost use Rattle.std.specs.Prelude.{◌≡◌, ◌⊎◌, ◌<◌, ◌≤◌, ◌+◌, ◌-◌, ◌*◌, ◌/◌, ◌^◌, ◌++◌, true, false, Err, IfErr, IfOk, IsErrOf, OnErr, OnOk, is_err, replicate};
 ghost use Rattle.sector_disk.specs.Disk.{HasCause, HasFailed, IsCalled, HasRead, HasSynced, HasWritten, one_failure_more};
 ghost use Rattle.sector_disk.specs.declared.record.Call.TheVariants.{Read, Sync, Write};
 ghost use Rattle.sector_disk.specs.declared.disk.DiskError.TheVariants.{DiskFault, OutOfRange};
@@ -33,6 +33,8 @@ impl<F: SectorFile> FileDisk<F> {
     ghost use Rattle.file_disk.specs.declared.fault.OpenCause.{OpenCause};
     ghost use Rattle.sector_disk.specs.Filling.{HasFilled};
     ghost use Rattle.sector_disk.specs.Run.{writes};
+    ghost use Rattle.file_disk.specs.File.{IsGivenUp};
+    ghost use Rattle.file_disk.specs.Reasons.{IsMeasured, IsNotBlank, IsUnmeasured};
     ghost use Rattle.file_disk.specs.Disk.{IsBlank, IsNew, blank_calls, calls_of, file_of, file_view, is_lost};
 
     /// A disk on a file as it is, with each whole sector of the file. Bytes after the last whole sector are ignored.
@@ -43,6 +45,8 @@ impl<F: SectorFile> FileDisk<F> {
         ensures refused { (cause : OpenCause) → IsErrOf result (NotOpened cause) → ⊥ }
         ensures kind { IsErrOf result KeepsNothing → ⊥ }
         ensures new { IfOk result IsNew }
+        ensures measured { IfOk result (λ disk. IsMeasured (F.measured file) disk.sectors) }
+        ensures reason { IfErr result (IsUnmeasured (F.measured file)) }
     {
         match file.len() {
             Ok(bytes) => Ok(FileDisk {
@@ -64,6 +68,7 @@ impl<F: SectorFile> FileDisk<F> {
         ensures failures { IfOk result (λ disk. disk.failures ≡ 0) }
         ensures kept { IfOk result (λ disk. is_lost disk ≡ false) }
         ensures refused { (cause : OpenCause) → IsErrOf result (NotOpened cause) → ⊥ }
+        ensures reason { IfErr result (IsNotBlank F.view F.turns F.measured file) }
     {
         let mut disk = FileDisk::over(file)?;
         match disk.clear() {
@@ -81,6 +86,7 @@ impl<F: SectorFile> FileDisk<F> {
         ensures sectors { self.new.sectors ≡ self.old.sectors }
         ensures failures { OnOk result (self.new.failures ≡ 0) }
         ensures kept { OnOk result (is_lost self.new ≡ false) }
+        ensures given_up { OnErr result (IsGivenUp F.view F.turns self.old.file self.new.file) }
     {
         self.fill()?;
         self.sync()?;
@@ -94,6 +100,8 @@ impl<F: SectorFile> FileDisk<F> {
         ensures sectors { self.new.sectors ≡ self.old.sectors }
         ensures calls { OnOk result (calls_of self.new ≡ calls_of self.old ++ writes 0 self.old.sectors (λ k. replicate 512 0)) }
         ensures kept { (self.new.lost ≡ self.old.lost) × (self.new.failures ≡ self.old.failures) }
+        ensures later { (F.view self.old.file).failures ≤ (F.view self.new.file).failures }
+        ensures given_up { OnErr result (IsGivenUp F.view F.turns self.old.file self.new.file) }
     {
         fill_with_zeros(&mut self.file, self.sectors)?;
         self.note_zeros();

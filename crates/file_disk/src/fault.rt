@@ -1,6 +1,6 @@
 // Why a file is not taken as a disk.
 ghost use Rattle.std.specs.Prelude.{◌≡◌};
-ghost use Rattle.file_disk.specs.Fault.{make_cause, of_lock, of_making, of_opening, open_cause, or_memory};
+ghost use Rattle.file_disk.specs.Fault.{make_cause, of_last, of_lock, of_making, of_opening, open_cause, or_memory};
 
 use std::fs::TryLockError;
 use std::io;
@@ -102,6 +102,16 @@ impl FileFault {
             ),
             ErrorKind::OutOfMemory => FileFault::NoMemory,
             _ => FileFault::DiskFault,
+        }
+    }
+
+    /// For what the last failure of a new file was, as the file got its sectors.
+    pub(crate) fn of_last(last: Option<ErrorKind>) -> FileFault
+        ensures { result ≡ of_last last }
+    {
+        match last {
+            Some(kind) => FileFault::of_making(kind),
+            None => FileFault::DiskFault,
         }
     }
 

@@ -1,6 +1,8 @@
 // The calls of a file that a disk is on.
-ghost use Rattle.std.specs.Prelude.{◌≡◌, ◌<◌, ◌≤◌, ◌+◌, ◌*◌, ◌/◌, ℕ, IfOk, length};
+ghost use Rattle.std.specs.Prelude.{◌≡◌, ◌<◌, ◌≤◌, ◌+◌, ◌*◌, ◌/◌, ℕ, IfOk, Result, length};
 ghost use Rattle.std.specs.Io.{ReadsAtMost, WritesAtMost};
+ghost use Rattle.std.specs.declared.io.Error.{Error};
+ghost use Rattle.sector_disk.specs.Numbers.{Bytes};
 ghost use Rattle.sector_disk.specs.Disk.{View, IsSound, HasSynced, HasCause};
 ghost use Rattle.file_disk.specs.File.{HasReadPart, HasWrittenPart, HasWrittenSectors, ended, moved, one_more};
 
@@ -19,9 +21,13 @@ pub trait SectorFile: Drop {
     /// How often it was read or written, up to the greatest `u64`.
     ghost turns: { Self → ℕ };
 
+    /// What asking for its length answers. Only the call itself shows that this holds of an answer.
+    ghost measured: { Self → Result Bytes Error → Type 0 };
+
     /// Its length in bytes.
     fn len(&self) -> io::Result<u64>
-        ensures { (view self.now).honest → IfOk result (λ bytes. bytes / 512 ≡ (view self.now).sectors) };
+        ensures gives { measured self.now result }
+        ensures value { (view self.now).honest → IfOk result (λ bytes. bytes / 512 ≡ (view self.now).sectors) };
 
     /// Reads some bytes from an offset on, and returns how many. It may be interrupted, and read fewer than asked for.
     fn read_at(&mut self, bytes: &mut [u8], offset: u64) -> io::Result<usize>

@@ -1,8 +1,8 @@
 // A file of the operating system.
 ghost use Rattle.std.specs.Prelude.{◌≡◌, ◌^◌, ◌<◌};
 
+use crate::SectorFile;
 use crate::file::moved;
-use crate::{FileFault, SectorFile};
 use std::fs::File;
 use std::io;
 use std::io::ErrorKind;
@@ -31,8 +31,7 @@ pub struct HostFile {
 impl HostFile {
     ghost use Rattle.sector_disk.specs.Disk.{HasCause};
     ghost use Rattle.file_disk.specs.File.{moved, one_more};
-    ghost use Rattle.file_disk.specs.declared.fault.FileFault.TheVariants.{KeepsNothing};
-    ghost use Rattle.file_disk.specs.Host.{host_turns, host_view};
+    ghost use Rattle.file_disk.specs.Host.{host_last, host_turns, host_view};
 
     // A file of which nothing was read or written yet.
     pub(crate) fn new(file: File) -> HostFile
@@ -46,14 +45,16 @@ impl HostFile {
         }
     }
 
-    // The fault for what the last failure was, as a new file got its sectors.
-    pub(crate) fn fault_of_making(&self) -> FileFault
-        ensures { result ≡ KeepsNothing → ⊥ }
+    // The open file.
+    pub(crate) fn file(&self) -> &File {
+        &self.file
+    }
+
+    // Of what kind the last failure was, if the system told.
+    pub(crate) fn last(&self) -> Option<ErrorKind>
+        ensures { result ≡ host_last self.now }
     {
-        match self.last {
-            Some(kind) => FileFault::of_making(kind),
-            None => FileFault::DiskFault,
-        }
+        self.last
     }
 
     // Counts a call that reads or writes, and whether it failed.
@@ -83,6 +84,8 @@ impl SectorFile for HostFile {
     ghost view = { host_view };
 
     ghost turns = { host_turns };
+
+    ghost measured = { λ file answer. Unit {0} };
 
     ghost sound = { λ file honest. absurd honest };
 

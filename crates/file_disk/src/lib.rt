@@ -8,6 +8,7 @@ mod file;
 mod history;
 mod host;
 mod opening;
+mod system;
 mod whole;
 mod zeros;
 
@@ -15,3 +16,4 @@ pub use disk::FileDisk;
 pub use fault::{FileFault, OpenCause};
 pub use file::SectorFile;
 pub use host::HostFile;
+pub use system::FileSystem;

@@ -1,22 +1,15 @@
-// Files of the operating system as disks.
-ghost use Rattle.std.specs.Prelude.{◌≡◌, ◌⊎◌, false, IfErr, IfOk, IsErrOf, IsTrue};
-ghost use Rattle.std.specs.Fs.{IsFile};
+// Files as disks, by their names.
+ghost use Rattle.std.specs.Prelude.{◌≡◌, ◌⊎◌, ◌*◌, false, true, Ok, IfErr, IfOk, IsErrOf, OnErr, OnOk};
 ghost use Rattle.file_disk.specs.Fault.{IsOfKind, IsOfLock, IsOfOpening};
+ghost use Rattle.file_disk.specs.Reasons.{HasOpened, IsOfOtherKind, IsUnentered, IsUnlocked, IsUnopened, IsUnsized};
+ghost use Rattle.file_disk.specs.declared.fault.FileFault.TheVariants.{KeepsNothing};
 
-use crate::{FileDisk, FileFault, HostFile};
+use crate::{FileDisk, FileFault, FileSystem, SectorFile};
 use sector_disk::Disk;
-use std::fs::{File, FileType, Files, OpenOptions};
-use std::io;
-use std::os::fd::AsRawFd;
-use std::os::unix::fs::{FileTypeExt, OpenOptionsExt};
-use std::path::Path;
 
-// Who may read and write a file that is made: its owner alone. It holds messages.
-const OF_ITS_OWNER: u32 = 0o600;
-
-impl FileDisk<HostFile> {
+impl<F: SectorFile> FileDisk<F> {
     ghost use Rattle.file_disk.specs.Disk.{IsNew, blank_calls, calls_of, file_of, is_lost};
-    ghost use Rattle.file_disk.specs.Host.{host_turns};
+    ghost use Rattle.file_disk.specs.Reasons.{IsAdopted, IsCreated, IsNotAdopted, IsNotCreated};
     ghost use Rattle.file_disk.specs.declared.fault.FileFault.TheVariants.{KeepsNothing, NotOpened};
     ghost use Rattle.file_disk.specs.declared.fault.OpenCause.TheVariants.{Exists};
 
@@ -26,31 +19,26 @@ impl FileDisk<HostFile> {
     /// Every sector is written and synced, so that a device without room for them fails now. At `Ok` the file, its length and
     /// its entry in the folder are durable, as far as `fsync` of a file and of its folder on Linux makes them so. The entries
     /// of the folders above are the caller's. A file that it made and could not finish is left: delete it by hand.
-    pub fn create<R: Files<File = File>>(
-        rt: &R,
-        path: &str,
-        sectors: u64,
-    ) -> Result<Self, FileFault>
+    pub fn create<R: FileSystem<F>>(rt: &R, path: &str, sectors: u64) -> Result<Self, FileFault>
         ensures sectors { IfOk result (λ disk. disk.sectors ≡ sectors) }
         ensures calls { IfOk result (λ disk. calls_of disk ≡ blank_calls sectors) }
         ensures failures { IfOk result (λ disk. disk.failures ≡ 0) }
         ensures kept { IfOk result (λ disk. is_lost disk ≡ false) }
         ensures kind { IsErrOf result KeepsNothing → ⊥ }
+        ensures made { IfOk result (λ disk. IsCreated F.measured (R.answers rt.now) path.now sectors) }
+        ensures reason { IfErr result (IsNotCreated F.measured (R.answers rt.now) path.now F.view F.turns sectors) }
     {
         let Some(bytes) = sectors.checked_mul(512) else {
             return Err(FileFault::DiskFault);
         };
         let file = open_locked(rt, path, true)?;
-        if let Err(error) = set_length(&file, bytes) {
-            return Err(FileFault::of_making(error.kind()));
-        }
-        let mut disk = FileDisk::over(HostFile::new(file))?;
+        set_length(rt, &file, bytes)?;
+        let mut disk = FileDisk::over(file)?;
         if disk.clear().is_err() {
-            return Err(disk.into_file().fault_of_making());
+            let file = disk.into_file();
+            return Err(FileFault::of_last(rt.last_failure(&file)));
         }
-        if let Err(error) = sync_folder(rt, path) {
-            return Err(FileFault::of_making(error.kind()));
-        }
+        sync_folder(rt, path)?;
         if disk.sectors() != sectors {
             return Err(FileFault::DiskFault);
         }
@@ -61,89 +49,76 @@ impl FileDisk<HostFile> {
     /// socket or a device without blocks is `KeepsNothing`.
     ///
     /// Where an earlier sync of the file has failed, reads may give what the device does not hold (`HostFile` says why).
-    pub fn adopt<R: Files<File = File>>(rt: &R, path: &str) -> Result<Self, FileFault>
+    pub fn adopt<R: FileSystem<F>>(rt: &R, path: &str) -> Result<Self, FileFault>
         ensures new { IfOk result IsNew }
-        ensures untouched { IfOk result (λ disk. host_turns (file_of disk) ≡ 0) }
+        ensures untouched { IfOk result (λ disk. F.turns (file_of disk) ≡ 0) }
         ensures refused { IsErrOf result (NotOpened Exists) → ⊥ }
+        ensures taken { IfOk result (λ disk. IsAdopted F.measured (R.answers rt.now) path.now (file_of disk) disk.sectors) }
+        ensures reason { IfErr result (IsNotAdopted F.measured (R.answers rt.now) path.now) }
     {
         let file = open_locked(rt, path, false)?;
-        check_kind(&file)?;
-        FileDisk::over(HostFile::new(file))
+        check_kind(rt, &file)?;
+        FileDisk::over(file)
     }
 }
 
-// Whether files of this kind keep what is written.
-fn keeps(kind: FileType) -> bool
-    ensures { IsFile kind → IsTrue result }
-{
-    kind.is_file() || kind.is_block_device()
-}
-
 // Refuses a file that keeps nothing.
-fn check_kind(file: &File) -> Result<(), FileFault>
-    ensures { IfErr result IsOfKind }
+fn check_kind<F: SectorFile, R: FileSystem<F>>(rt: &R, file: &F) -> Result<(), FileFault>
+    ensures kept { OnOk result ((R.answers rt.now).judged file.now (Ok true)) }
+    ensures reason { IfErr result (IsOfOtherKind (R.answers rt.now) file.now) }
+    ensures kinds { IfErr result IsOfKind }
 {
-    match file.metadata() {
-        Ok(metadata) if keeps(metadata.file_type()) => Ok(()),
-        Ok(_) => Err(FileFault::KeepsNothing),
+    match rt.keeps(file) {
+        Ok(true) => Ok(()),
+        Ok(false) => Err(FileFault::KeepsNothing),
         Err(error) => Err(FileFault::DiskFault.or_memory(error)),
     }
 }
 
 // Opens a file for reading and writing, or makes one, and locks it.
-fn open_locked<R: Files<File = File>>(rt: &R, path: &str, is_new: bool) -> Result<File, FileFault>
-    ensures { IfErr result (λ fault. IsOfOpening is_new fault ⊎ IsOfLock fault) }
+fn open_locked<F: SectorFile, R: FileSystem<F>>(
+    rt: &R,
+    path: &str,
+    is_new: bool,
+) -> Result<F, FileFault>
+    ensures opened { IfOk result (HasOpened (R.answers rt.now) path.now is_new) }
+    ensures turns { IfOk result (λ file. F.turns file ≡ 0) }
+    ensures reason { IfErr result (λ fault. IsUnopened (R.answers rt.now) path.now is_new fault ⊎ IsUnlocked (R.answers rt.now) path.now is_new fault) }
+    ensures kinds { IfErr result (λ fault. IsOfOpening is_new fault ⊎ IsOfLock fault) }
 {
-    let file = open_file(rt, path, is_new)?;
-    lock(&file)?;
-    Ok(file)
-}
-
-// Opens a file for reading and writing, or makes one.
-fn open_file<R: Files<File = File>>(rt: &R, path: &str, is_new: bool) -> Result<File, FileFault>
-    ensures { IfErr result (IsOfOpening is_new) }
-{
-    let opened = OpenOptions::new()
-        .read(true)
-        .write(true)
-        .create_new(is_new)
-        .mode(OF_ITS_OWNER)
-        .open(rt, path);
-    match opened.and_then(off_the_streams) {
-        Ok(file) => Ok(file),
+    match rt.open(path, is_new) {
+        Ok(file) => match rt.lock(&file) {
+            Ok(()) => Ok(file),
+            Err(error) => Err(FileFault::of_lock(error)),
+        },
         Err(error) => Err(FileFault::of_opening(is_new, error)),
     }
 }
 
-// The file, under a number that is no standard stream's. Where such a stream was closed, the file may have got its number,
-// and what is printed would land in the file.
-fn off_the_streams(file: File) -> io::Result<File> {
-    if file.as_raw_fd() > 2 {
-        return Ok(file);
-    }
-    file.try_clone()
-}
-
-fn lock(file: &File) -> Result<(), FileFault>
-    ensures { IfErr result IsOfLock }
+// Gives a new file its length, and makes that durable.
+fn set_length<F: SectorFile, R: FileSystem<F>>(
+    rt: &R,
+    file: &F,
+    bytes: u64,
+) -> Result<(), FileFault>
+    ensures sized { OnOk result ((R.answers rt.now).sized file.now bytes (Ok tt)) }
+    ensures reason { IfErr result (IsUnsized (R.answers rt.now) file.now bytes) }
+    ensures kind { IsErrOf result KeepsNothing → ⊥ }
 {
-    match file.try_lock() {
+    match rt.set_length(file, bytes) {
         Ok(()) => Ok(()),
-        Err(error) => Err(FileFault::of_lock(error)),
+        Err(error) => Err(FileFault::of_making(error.kind())),
     }
 }
 
-// Gives a file its length, and makes that durable.
-fn set_length(file: &File, bytes: u64) -> io::Result<()> {
-    file.set_len(bytes)?;
-    file.sync_all()
-}
-
-// Makes the entry of a file in its folder durable.
-fn sync_folder<R: Files<File = File>>(rt: &R, path: &str) -> io::Result<()> {
-    let folder = match Path::new(path).parent() {
-        Some(folder) if !folder.as_str().is_empty() => File::open(rt, folder)?,
-        _ => File::open(rt, ".")?,
-    };
-    folder.sync_all()
+// Makes the entry of a new file in its folder durable.
+fn sync_folder<F: SectorFile, R: FileSystem<F>>(rt: &R, path: &str) -> Result<(), FileFault>
+    ensures entered { OnOk result ((R.answers rt.now).entered path.now (Ok tt)) }
+    ensures reason { IfErr result (IsUnentered (R.answers rt.now) path.now) }
+    ensures kind { IsErrOf result KeepsNothing → ⊥ }
+{
+    match rt.sync_folder(path) {
+        Ok(()) => Ok(()),
+        Err(error) => Err(FileFault::of_making(error.kind())),
+    }
 }

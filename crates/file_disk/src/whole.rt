@@ -81,6 +81,7 @@ pub(crate) fn write_sector<F: SectorFile>(
     ensures sectors { (F.view file.new).sectors ≡ (F.view file.old).sectors }
     ensures given_up { IfErr result (λ e. (e ≡ DiskFault) × HasGivenUp (F.view file.old) (F.view file.new) (F.turns file.old) (F.turns file.new)) }
     ensures turns { F.turns file.new ≤ F.turns file.old + most_calls }
+    ensures later { (F.view file.old).failures ≤ (F.view file.new).failures }
 {
     let mut done = 0;
     for _call in 0..MOST_CALLS {

@@ -1,6 +1,7 @@
 // Zeros in the sectors of a file.
-ghost use Rattle.std.specs.Prelude.{◌≡◌, ◌≤◌, ◌<◌, ◌+◌, ◌*◌, ◌^◌, replicate};
+ghost use Rattle.std.specs.Prelude.{◌≡◌, ◌≤◌, ◌<◌, ◌+◌, ◌*◌, ◌^◌, OnErr, replicate};
 ghost use Rattle.sector_disk.specs.Filling.{HasFilled};
+ghost use Rattle.file_disk.specs.File.{IsGivenUp};
 
 use crate::SectorFile;
 use crate::file::moved;
@@ -16,6 +17,8 @@ fn fill_each<F: SectorFile>(file: &mut F, at: u64, count: u64) -> Result<(), Dis
     ensures effect { at + count ≤ (F.view file.old).sectors → (F.view file.old).honest
         → HasFilled (F.view file.old) (F.view file.new) at count (λ k. replicate 512 0) result }
     ensures sectors { (F.view file.new).sectors ≡ (F.view file.old).sectors }
+    ensures later { (F.view file.old).failures ≤ (F.view file.new).failures }
+    ensures given_up { OnErr result (IsGivenUp F.view F.turns file.old file.new) }
 {
     for k in 0..count {
         write_sector(file, at + k, &[0; 512])?;
@@ -31,6 +34,8 @@ fn fill_piece<F: SectorFile>(file: &mut F, at: u64, zeros: &[u8]) -> Result<(), 
     ensures effect { at + 128 ≤ (F.view file.old).sectors → (F.view file.old).honest
         → HasFilled (F.view file.old) (F.view file.new) at 128 (λ k. replicate 512 0) result }
     ensures sectors { (F.view file.new).sectors ≡ (F.view file.old).sectors }
+    ensures later { (F.view file.old).failures ≤ (F.view file.new).failures }
+    ensures given_up { OnErr result (IsGivenUp F.view F.turns file.old file.new) }
 {
     let written = moved(file.write_at(zeros, 512 * at))?;
     if written == zeros.len() {
@@ -45,6 +50,8 @@ pub(crate) fn fill_with_zeros<F: SectorFile>(file: &mut F, count: u64) -> Result
     ensures effect { count ≤ (F.view file.old).sectors → (F.view file.old).honest
         → HasFilled (F.view file.old) (F.view file.new) 0 count (λ k. replicate 512 0) result }
     ensures sectors { (F.view file.new).sectors ≡ (F.view file.old).sectors }
+    ensures later { (F.view file.old).failures ≤ (F.view file.new).failures }
+    ensures given_up { OnErr result (IsGivenUp F.view F.turns file.old file.new) }
 {
     let zeros = [0u8; 65536];
     let pieces = count / PIECE;

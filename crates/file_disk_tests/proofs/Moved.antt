@@ -59,7 +59,8 @@ is_failed : (count : ℕ) (r : Result ℕ DiskError) → 1 < count → IfOk r (�
 is_failed count (Ok n) many small = not_all count n many small
 is_failed count (Err e) many small = refl
 
-pub sectors_in_part : (old new : View) (at count : ℕ) (bytes : List ℕ) (r : Result ℕ DiskError) → old.honest → IsSound old → 1 < count → at + count ≤ old.sectors → IfOk r (λ n. n ≤ 512) → HasWrittenPart old new at 0 bytes r
+pub sectors_in_part : (old new : View) (at count : ℕ) (bytes : List ℕ) (r : Result ℕ DiskError) → old.honest → IsSound old → 1 < count →
+    at + count ≤ old.sectors → IfOk r (λ n. n ≤ 512) → HasWrittenPart old new at 0 bytes r
     → HasWrittenSectors old new at count bytes r
 sectors_in_part old new at count bytes r honest sound many within small part =
     let pieces : ℕ → List ℕ = λ k. take 512 (drop (512 * k) bytes) in

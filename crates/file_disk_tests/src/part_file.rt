@@ -183,6 +183,8 @@ impl<D: Disk + Drop> SectorFile for PartFile<D> {
 
     ghost turns = { part_turns };
 
+    ghost measured = { λ file answer. Unit {0} };
+
     ghost sound = { λ file honest. part_sound D.view file (D.sound file.disk honest) };
 
     fn len(&self) -> io::Result<u64> {

@@ -5,6 +5,7 @@ use Rattle.std.specs.Arc.{arc_value}
 use Rattle.std.specs.declared.alloc.Global.{Global}
 use Rattle.std.specs.declared.sync.Arc.{Arc}
 use Rattle.std.proofs.Common.{◌≡◌, ℕ, zero, suc, ◌+◌, ◌-◌, ◌<◌, ◌≤◌, Bool, true, List, [], ◌∷◌, ◌++◌, length, refl, ap, sym, ◌∙◌, subst, arith}
+use Rattle.base.proofs.Lists.{set_length}
 use Rattle.centre_core.specs.Asked.{Asked}
 use Rattle.station_queue.specs.declared.entry.Entry.{Entry}
 use Rattle.station_queue.specs.declared.entry.Entry.TheVariants.{Submitted, Ended}
@@ -36,11 +37,6 @@ pub at_or : {X : Type 0} (xs : List X) (k : ℕ) (a : X) → k < length xs → a
 at_or [] k a lt e = absurd (omega arith)
 at_or (x ∷ xs) zero a lt e = ap Some (sym e)
 at_or (x ∷ xs) (suc k) a lt e = at_or xs k a (omega arith) e
-
-pub set_length : {X : Type 0} (xs : List X) (i : ℕ) (x : X) → length (set xs i x) ≡ length xs
-set_length [] i x = refl
-set_length (z ∷ zs) zero x = refl
-set_length (z ∷ zs) (suc i) x = ap suc (set_length zs i x)
 
 pub drop_past : {X : Type 0} (xs : List X) (k : ℕ) → length xs ≤ k → drop k xs ≡ []
 drop_past [] zero le = refl

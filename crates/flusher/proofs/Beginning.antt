@@ -6,6 +6,8 @@ use Rattle.std.proofs.lemmas.List.Elements.{All-from_recursion, recursion_from_A
 use Rattle.std.proofs.lemmas.Option.{slice_get_within}
 use mathlib.Core.List.{IsPrefix}
 use Rattle.std.specs.declared.alloc.Global.{Global}
+use Rattle.base.proofs.Lists.{some_beside}
+use Rattle.base.proofs.Options.{some_is}
 use Rattle.centre_core.specs.Asked.{Asked}
 use Rattle.centre_core.specs.State.{State}
 use Rattle.centre_core.specs.History.{after}
@@ -24,7 +26,7 @@ use Rattle.flusher.specs.Order.{AreInOrder}
 use Rattle.flusher.specs.Served.{IsSettled}
 use Rattle.flusher.specs.declared.session.Session.{Session}
 use Rattle.flusher.proofs.Endings.{none_ended}
-use Rattle.flusher.proofs.Borne.{none_sent, some_at}
+use Rattle.flusher.proofs.Borne.{none_sent}
 use Rattle.flusher.proofs.Ordered.{none_in_order}
 
 -- what is at a place of a list with one more at its end
@@ -39,18 +41,12 @@ at_place : {X : Type 0} (xs : List X) (x : X) (ys : List X) → slice_get (xs ++
 at_place [] x ys = refl
 at_place (z ∷ zs) x ys = at_place zs x ys
 
-same_item : {X : Type 0} (x y : X) → Some x ≡ Some y → x ≡ y
-same_item x y h = cc h
-
 -- the station whose turn it is
 pub this_station : (q : TableId) (done : List Sending) (x : Sending) (rest all : List Sending) → done ++ x ∷ rest ≡ all
     → ((k : ℕ) → k < length all → slice_get all k ≡ Some (sending q (k + 1) [])) → x ≡ sending q (length done + 1) []
 this_station q done x rest all split each =
     let at = subst (λ l. slice_get l (length done) ≡ Some x) split (at_place done x rest) in
-    same_item x (sending q (length done + 1) []) (sym at ∙ each (length done) (slice_get_within all (length done) x at))
-
-pub within : {X : Type 0} (xs : List X) (x : X) (ys all : List X) → xs ++ x ∷ ys ≡ all → length xs < length all
-within xs x ys all split = slice_get_within all (length xs) x (subst (λ l. slice_get l (length xs) ≡ Some x) split (at_place xs x ys))
+    some_is x (sending q (length done + 1) []) (sym at ∙ each (length done) (slice_get_within all (length done) x at))
 
 but_last : {X : Type 0} (P : X → Type 0) (xs : List X) (x : X) → AllByRecursion P (xs ++ x ∷ []) → AllByRecursion P xs × P x
 but_last P [] x h = (tt, h.0)
@@ -72,7 +68,9 @@ one_more_at_end {J} q senders sessions a s h new = record {
     ]
     | inr x ↦ elim (at_end sessions s t k there) [
       | inl y ↦ absurd (omega (arith, slice_get_within sessions k t y, x.0, h.count))
-      | inr y ↦ subst (λ n. IsNewSession q (n + 1) b t) (sym x.0) (subst (λ (w : Session J). IsNewSession q (length senders + 1) b w) (sym y.1) (subst (λ (w : AnswerSender Sent). IsNewSession q (length senders + 1) w s) (sym x.1) new))
+      | inr y ↦ subst (λ n. IsNewSession q (n + 1) b t) (sym x.0)
+          (subst (λ (w : Session J). IsNewSession q (length senders + 1) b w) (sym y.1)
+          (subst (λ (w : AnswerSender Sent). IsNewSession q (length senders + 1) w s) (sym x.1) new))
     ]
   ];
 }
@@ -80,7 +78,8 @@ one_more_at_end {J} q senders sessions a s h new = record {
 pub one_more_session : {J : Type 0} (q : TableId) (senders more : List (AnswerSender Sent)) (sessions also_more : List (Session J)) (a : AnswerSender Sent) (s : Session J)
     → more ≡ senders ++ a ∷ [] → also_more ≡ sessions ++ s ∷ [] → AreNewSessions q senders sessions → IsNewSession q (length senders + 1) a s → AreNewSessions q more also_more
 one_more_session {J} q senders more sessions also_more a s is also_is h new =
-    subst (λ (l : List (AnswerSender Sent)). AreNewSessions q l also_more) (sym is) (subst (λ (l : List (Session J)). AreNewSessions q (senders ++ a ∷ []) l) (sym also_is) (one_more_at_end q senders sessions a s h new))
+    subst (λ (l : List (AnswerSender Sent)). AreNewSessions q l also_more) (sym is)
+    (subst (λ (l : List (Session J)). AreNewSessions q (senders ++ a ∷ []) l) (sym also_is) (one_more_at_end q senders sessions a s h new))
 
 -- none yet
 pub no_sessions : {J : Type 0} (q : TableId) (senders : List (AnswerSender Sent)) (sessions : List (Session J)) → senders ≡ [] → sessions ≡ [] → AreNewSessions q senders sessions
@@ -94,10 +93,11 @@ abbrev pub HaveSentNothing : List (AnswerSender Sent) → Type 0
 HaveSentNothing senders = (k : ℕ) (a : AnswerSender Sent) → slice_get senders k ≡ Some a → sent_of a.pass ≡ []
 
 pub nothing_sent : {J : Type 0} (q : TableId) (senders : List (AnswerSender Sent)) (sessions : List (Session J)) → AreNewSessions q senders sessions → HaveSentNothing senders
-nothing_sent {J} q senders sessions h k a at = let s = some_at sessions senders k a (sym h.count) at in (h.each k a s.0 at s.1).channel.1
+nothing_sent {J} q senders sessions h k a at = let s = some_beside sessions senders k a (sym h.count) at in (h.each k a s.0 at s.1).channel.1
 
 -- a new flusher of a store that has the base is settled
-pub new_is_settled : {D : Type 0} (base : State) (n : ℕ) (store : StoreView Global D) (f : FlusherView D) → IsNewFlusher n store f → HaveSentNothing f.senders → store.register ≡ base → IsSettled base f
+pub new_is_settled : {D : Type 0} (base : State) (n : ℕ) (store : StoreView Global D) (f : FlusherView D) → IsNewFlusher n store f →
+    HaveSentNothing f.senders → store.register ≡ base → IsSettled base f
 new_is_settled {D} base n store f h nothing is = record {
   history = subst (IsHistory base) (sym h.durable) tt;
   made = λ _. ap (λ (s : StoreView Global D). s.register) h.store ∙ is ∙ ap (after base) (sym h.durable);

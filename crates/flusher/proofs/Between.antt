@@ -53,7 +53,8 @@ module _ {D : Type 0} (base : State) (t : ℕ) (f g : Progress D) (commands : Li
   reason_broken BadGeometry h up down = absurd h
   reason_broken (Damaged at) h up down = absurd h
 
-  broken_by : (broken : Bool) → broken ≡ false → AreServedBy base t f g commands answers broken → f.store.broken ≡ false → g.store.broken ≡ true → HasBroken commands f.store g.store × (g.durable ≡ f.durable)
+  broken_by : (broken : Bool) → broken ≡ false → AreServedBy base t f g commands answers broken → f.store.broken ≡ false → g.store.broken ≡ true →
+      HasBroken commands f.store g.store × (g.durable ≡ f.durable)
   broken_by true e h up down = absurd (true≢false e)
   broken_by false e h up down = elim h [
     | inl done ↦ absurd (true≢false (sym down ∙ done.sound))
@@ -81,7 +82,8 @@ rounds_longer view base f g (next x m y first rest) = prefix_trans x.durable m.d
 
 module _ {D : Type 0} (view : D → View) (base : State) where
   -- before the first round
-  pub none_between : (f : FlusherView D) → ((view f.store.disk).honest → IsSound (view f.store.disk)) → f.store.register ≡ after base f.durable → IsStoredFor view base f → f.store.broken ≡ false → LeavesOnly (view f.store.disk) (view f.store.disk) (OpensBetween base f f)
+  pub none_between : (f : FlusherView D) → ((view f.store.disk).honest → IsSound (view f.store.disk)) → f.store.register ≡ after base f.durable →
+      IsStoredFor view base f → f.store.broken ≡ false → LeavesOnly (view f.store.disk) (view f.store.disk) (OpensBetween base f f)
   none_between f sound made h up =
       let k = keeps_self view f.store sound h.honest (h.sound up) in
       let at : (image : List (List ℕ)) → OpensTo Global f.store.register image → OpensBetween base f f image =
@@ -90,7 +92,8 @@ module _ {D : Type 0} (view : D → View) (base : State) where
       (λ image is. elim is [ inl q ↦ at image q | inr q ↦ at image q ])
 
   -- the same, also of a store that is broken
-  now_by : (f : FlusherView D) (b : Bool) → f.store.broken ≡ b → ((view f.store.disk).honest → IsSound (view f.store.disk)) → (f.store.broken ≡ false → f.store.register ≡ after base f.durable) → IsStoredFor view base f
+  now_by : (f : FlusherView D) (b : Bool) → f.store.broken ≡ b → ((view f.store.disk).honest → IsSound (view f.store.disk)) →
+      (f.store.broken ≡ false → f.store.register ≡ after base f.durable) → IsStoredFor view base f
       → LeavesOnly (view f.store.disk) (view f.store.disk) (OpensBetween base f f)
   now_by f true down sound made h =
       let w = h.failed down in
@@ -130,7 +133,9 @@ module _ {D : Type 0} (view : D → View) (base : State) where
       at_before image is = inl (m.durable, rounds_longer view base f m before, round_longer view base m g r, subst (λ s. OpensTo Global s image) made is)
 
       -- the register that the disk's failure left
-      at_broken : g.store.broken ≡ true → g.durable ≡ m.durable → (g.store.register ≡ m.store.register) ⊎ IsAfterBatch m.store.register (commands_among r.popped) g.store.register → (image : List (List ℕ)) → OpensTo Global g.store.register image → OpensBetween base f g image
+      at_broken : g.store.broken ≡ true → g.durable ≡ m.durable → (g.store.register ≡ m.store.register) ⊎
+          IsAfterBatch m.store.register (commands_among r.popped) g.store.register → (image : List (List ℕ)) → OpensTo Global g.store.register image →
+          OpensBetween base f g image
       at_broken down same (inl q) image is = at_before image (subst (λ s. OpensTo Global s image) q is)
       at_broken down same (inr q) image is =
           let batch = commands_among r.popped in
@@ -141,10 +146,16 @@ module _ {D : Type 0} (view : D → View) (base : State) where
           inr (more, down, begun view base m g batch more_taken more q.0 order same refl, subst (λ s. OpensTo Global s image) now is)
 
       -- the register after the round
-      at_after : (b : Bool) → g.store.broken ≡ b → (g.store.broken ≡ false → g.store.register ≡ after base g.durable) → (image : List (List ℕ)) → OpensTo Global g.store.register image → OpensBetween base f g image
+      at_after : (b : Bool) → g.store.broken ≡ b → (g.store.broken ≡ false → g.store.register ≡ after base g.durable) → (image : List (List ℕ)) →
+          OpensTo Global g.store.register image → OpensBetween base f g image
       at_after true down sound image is = let b = round_broken view base m g r up down in at_broken down b.1 b.0.register image is
       at_after false now sound image is =
-          inl (g.durable, prefix_trans f.durable m.durable g.durable (rounds_longer view base f m before) (round_longer view base m g r), prefix_self g.durable, subst (λ s. OpensTo Global s image) (sound now) is)
+          inl (
+            g.durable,
+            prefix_trans f.durable m.durable g.durable (rounds_longer view base f m before) (round_longer view base m g r),
+            prefix_self g.durable,
+            subst (λ s. OpensTo Global s image) (sound now) is,
+          )
 
       round_between : (g.store.broken ≡ false → g.store.register ≡ after base g.durable) → LeavesOnly (view m.store.disk) (view g.store.disk) (OpensToEither Global m.store.register g.store.register)
           → LeavesOnly (view f.store.disk) (view m.store.disk) (OpensBetween base f m) → LeavesOnly (view f.store.disk) (view g.store.disk) (OpensBetween base f g)
@@ -159,14 +170,16 @@ module _ {D : Type 0} (view : D → View) (base : State) where
           (λ image is. elim is [ inl q ↦ at_before image q | inr q ↦ at_after g.store.broken refl sound image q ])
 
     -- one more round
-    pub one_more_between : (b : Bool) → m.store.broken ≡ b → (m.store.broken ≡ false → m.store.register ≡ after base m.durable) → AreInOrder m.durable m.taker.taken → (g.store.broken ≡ false → g.store.register ≡ after base g.durable)
+    pub one_more_between : (b : Bool) → m.store.broken ≡ b → (m.store.broken ≡ false → m.store.register ≡ after base m.durable) →
+        AreInOrder m.durable m.taker.taken → (g.store.broken ≡ false → g.store.register ≡ after base g.durable)
         → (m.store.broken ≡ false → LeavesOnly (view m.store.disk) (view g.store.disk) (OpensToEither Global m.store.register g.store.register))
         → LeavesOnly (view f.store.disk) (view m.store.disk) (OpensBetween base f m) → LeavesOnly (view f.store.disk) (view g.store.disk) (OpensBetween base f g)
     one_more_between true down made order sound second first = idle_between down first
     one_more_between false up made order sound second first = round_between up (made up) order sound (second up) first
 
     -- a store that was sound and is broken has a disk that failed in between
-    pub one_more_failed : (b : Bool) → m.store.broken ≡ b → (view f.store.disk).failures ≤ (view m.store.disk).failures → (m.store.broken ≡ false → g.store.broken ≡ true → HasFailed (view m.store.disk) (view g.store.disk))
+    pub one_more_failed : (b : Bool) → m.store.broken ≡ b → (view f.store.disk).failures ≤ (view m.store.disk).failures →
+        (m.store.broken ≡ false → g.store.broken ≡ true → HasFailed (view m.store.disk) (view g.store.disk))
         → (m.store.broken ≡ true → HasFailed (view f.store.disk) (view m.store.disk)) → g.store.broken ≡ true → HasFailed (view f.store.disk) (view g.store.disk)
     one_more_failed true broken later now earlier down = subst (λ (s : StoreView Global D). HasFailed (view f.store.disk) (view s.disk)) (sym (round_idle view base m g r broken).0) (earlier broken)
     one_more_failed false up later now earlier down = later_failed (view f.store.disk).failures (view m.store.disk).failures (view g.store.disk).failures later (now up down)

@@ -1,9 +1,11 @@
 -- Answers, and the prefixes of the durable commands that bear them out.
 use Rattle.std.specs.Prelude.{◌==◌, map, replicate, slice_get}
 use Rattle.std.specs.declared.alloc.Global.{Global}
-use Rattle.std.proofs.Common.{◌≡◌, ℕ, zero, suc, ◌+◌, ◌-◌, ◌≤◌, inl, inr, Bool, true, false, cond, List, [], ◌∷◌, ◌++◌, length, take, drop, refl, ap, sym, ◌∙◌, subst, arith, append_assoc, length-append, Some, true≢false}
+use Rattle.std.proofs.Common.{◌≡◌, ℕ, zero, suc, ◌+◌, ◌-◌, ◌≤◌, inl, inr, Bool, true, false, cond, List, [], ◌∷◌, ◌++◌, length, take, drop, refl, ap}
+use Rattle.std.proofs.Common.{sym, ◌∙◌, subst, arith, append_assoc, length-append, Some, true≢false}
 use Rattle.std.proofs.lemmas.List.{take-append-le, take_at, take-append-drop, append-nil}
 use mathlib.Core.List.{IsPrefix}
+use Rattle.base.proofs.Lists.{some_beside}
 use Rattle.centre_core.specs.Asked.{Asked}
 use Rattle.centre_core.specs.State.{State}
 use Rattle.centre_core.specs.Step.{last_at}
@@ -84,7 +86,8 @@ answer_after base l c all (Kept n p) h = h
 answer_after base l c all (Refused r) h = h
 
 -- the reply to the command after a list: an acceptance is borne out once the command is on the list
-reply_taken : (base s : State) (l : List G) (c : G) → IsHistory base l → s ≡ after base l → (r : Reply Global) → reply_to s c ≡ r → Replied s c (next s c) r → is_acceptance r ≡ true → IsReplyAfter base (l ++ c ∷ []) c r
+reply_taken : (base s : State) (l : List G) (c : G) → IsHistory base l → s ≡ after base l → (r : Reply Global) → reply_to s c ≡ r →
+    Replied s c (next s c) r → is_acceptance r ≡ true → IsReplyAfter base (l ++ c ∷ []) c r
 reply_taken base s l c a at (Accepted n p) is says it =
     let count : (after base l).count ≡ base.count + length l = counted base l a in
     let same : s.count ≡ (after base l).count = ap (λ (t : State). t.count) at in
@@ -98,10 +101,12 @@ reply_taken base s l c a at (Kept n p) is says it = absurd (true≢false (sym it
 reply_taken base s l c a at (Refused r) is says it = absurd (true≢false (sym it))
 
 -- any other is borne out by the list as it is
-reply_alone : (base s : State) (l : List G) (c : G) → IsHistory base l → s ≡ after base l → (r : Reply Global) → reply_to s c ≡ r → Replied s c (next s c) r → is_acceptance r ≡ false → IsReplyAfter base l c r
+reply_alone : (base s : State) (l : List G) (c : G) → IsHistory base l → s ≡ after base l → (r : Reply Global) → reply_to s c ≡ r →
+    Replied s c (next s c) r → is_acceptance r ≡ false → IsReplyAfter base l c r
 reply_alone base s l c a at (Accepted n p) is says not_it = absurd (true≢false not_it)
 reply_alone base s l c a at (Kept n p) is says not_it =
-    let kept : last_at (after base l) c.station ≡ Some (last_of c n p) = subst (λ t. last_at t c.station ≡ Some (last_of c n p)) at says.2 in kept_is_there base l a c.station (last_of c n p) says.1 kept
+    let kept : last_at (after base l) c.station ≡ Some (last_of c n p) = subst (λ t. last_at t c.station ≡ Some (last_of c n p)) at says.2 in
+    kept_is_there base l a c.station (last_of c n p) says.1 kept
 reply_alone base s l c a at (Refused r) is says not_it = subst (λ t. reply_to t c ≡ Refused r) at is
 
 -- what ran out of memory is borne out by anything
@@ -118,7 +123,8 @@ outcomes_of s cs k = map outcome.Replied (replies Global s cs) ++ replicate k ou
 module _ (base : State) (total published : List G) (all : Bool) (rest : List G) (k t : ℕ) where
   -- one command and the answers after it
   step_by : (b : Bool) (s : State) (l : List G) (c : G) (cs : List G) → is_acceptance (reply_to s c) ≡ b
-      → ((l' : List G) → IsHistory base l' → next s c ≡ after base l' → total ≡ l' ++ taken (next s c) cs → AreBorneOut base total (length l') (sent_by t published all (cs ++ rest) (outcomes_of (next s c) cs k)))
+      → ((l' : List G) → IsHistory base l' → next s c ≡ after base l' → total ≡ l' ++ taken (next s c) cs →
+      AreBorneOut base total (length l') (sent_by t published all (cs ++ rest) (outcomes_of (next s c) cs k)))
       → IsHistory base l → s ≡ after base l → total ≡ l ++ cond b (c ∷ taken (next s c) cs) (taken (next s c) cs)
       → AreBorneOut base total (length l) (sent_by t published all (c ∷ (cs ++ rest)) (outcome.Replied (reply_to s c) ∷ outcomes_of (next s c) cs k))
   step_by true s l c cs is more a at split =
@@ -140,7 +146,8 @@ module _ (base : State) (total published : List G) (all : Bool) (rest : List G) 
       (length l, omega arith, omega arith, subst (λ t. IsReplyAfter base t c (answer_from all (reply_to s c))) (sym first) here, more l a goes parts)
 
   -- a batch is borne out by the list with all that it accepted
-  pub batch_borne_by : (cs : List G) (s : State) (l : List G) → IsHistory base l → s ≡ after base l → total ≡ l ++ taken s cs → AreBorneOut base total (length l) (sent_by t published all (cs ++ rest) (outcomes_of s cs k))
+  pub batch_borne_by : (cs : List G) (s : State) (l : List G) → IsHistory base l → s ≡ after base l → total ≡ l ++ taken s cs →
+      AreBorneOut base total (length l) (sent_by t published all (cs ++ rest) (outcomes_of s cs k))
   batch_borne_by [] s l a at split =
       let whole : length total ≡ length l = ap length (split ∙ append-nil l) in none_borne_out base total (length l) t published all rest k (omega arith)
   batch_borne_by (c ∷ cs) s l a at split =
@@ -173,7 +180,8 @@ parts_of s t cs os h =
     }
 
 -- the answers to it are borne out by what was durable before, with all that it accepted
-pub commit_borne_out : (base : State) (t : ℕ) (durable published : List G) (all : Bool) (cs : List G) (os : List (Outcome Global)) (u : State) → IsHistory base durable → IsAnswered (after base durable) cs u os
+pub commit_borne_out : (base : State) (t : ℕ) (durable published : List G) (all : Bool) (cs : List G) (os : List (Outcome Global)) (u : State) →
+    IsHistory base durable → IsAnswered (after base durable) cs u os
     → AreBorneOut base (durable ++ accepted_by cs os) (length durable) (sent_by t published all cs os)
 commit_borne_out base t durable published all cs os u a h =
     let s = after base durable in
@@ -186,21 +194,16 @@ commit_borne_out base t durable published all cs os u a h =
 
 -- ---- what was sent to each station
 
-pub some_at : {X Y : Type 0} (xs : List X) (ys : List Y) (k : ℕ) (b : Y) → length ys ≡ length xs → slice_get ys k ≡ Some b → (a : X) × (slice_get xs k ≡ Some a)
-some_at xs [] k b e h = absurd cc
-some_at [] (y ∷ ys) k b e h = absurd (omega arith)
-some_at (x ∷ xs) (y ∷ ys) zero b e h = (x, refl)
-some_at (x ∷ xs) (y ∷ ys) (suc k) b e h = some_at xs ys k b (omega arith) h
-
 -- what was sent on a channel are the first of what there was to send
 pub sent_first : (old new xs : List Sent) (was now : Bool) → HasAnswered old new was now xs → IsPrefix new (old ++ xs)
 sent_first old new xs was now h = elim h.sent [ inl q ↦ ([], append-nil new ∙ q.2) | inr q ↦ q.2 ]
 
 -- answers that are borne out past all that was durable are sent in order
-pub sent_in_order : (base : State) (durable more : List G) (old new : List (AnswerSender Sent)) (answers : List Sent) → AreSentInOrder base durable old → AreBorneOut base (durable ++ more) (length durable) answers
+pub sent_in_order : (base : State) (durable more : List G) (old new : List (AnswerSender Sent)) (answers : List Sent) →
+    AreSentInOrder base durable old → AreBorneOut base (durable ++ more) (length durable) answers
     → HaveAnswered old answers new → AreSentInOrder base (durable ++ more) new
 sent_in_order base durable more old new answers h borne did k b there =
-    let was = some_at old new k b did.count there in
+    let was = some_beside old new k b did.count there in
     let a = was.0 in
     let sent = did.each k a b was.1 there in
     let mine : List Sent = answers_to (k + 1) answers in
@@ -210,5 +213,6 @@ sent_in_order base durable more old new answers h borne did k b there =
     are_prefix base (durable ++ more) 0 (sent_of b.pass) (sent_of a.pass ++ mine) first all
 
 -- at the start nothing was sent
-pub none_sent : (base : State) (durable : List G) (senders : List (AnswerSender Sent)) → ((k : ℕ) (a : AnswerSender Sent) → slice_get senders k ≡ Some a → sent_of a.pass ≡ []) → AreSentInOrder base durable senders
+pub none_sent : (base : State) (durable : List G) (senders : List (AnswerSender Sent)) →
+    ((k : ℕ) (a : AnswerSender Sent) → slice_get senders k ≡ Some a → sent_of a.pass ≡ []) → AreSentInOrder base durable senders
 none_sent base durable senders none k a at = subst (λ l. AreBorneOut base durable 0 l) (sym (none k a at)) tt

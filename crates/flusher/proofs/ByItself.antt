@@ -57,7 +57,8 @@ module _ {D : Type 0} (base : State) (t : ℕ) (f g : Progress D) where
   added_by : (commands : List G) (answers : List Sent) (broken : Bool) → AreServedBy base t f g commands answers broken → HasAdded commands answers
   added_by commands answers true h =
       added_none commands answers h.durable
-      (subst (λ l. AreBorneOut base f.durable (length f.durable) l) (sym h.each) (alike_borne_out base f.durable (length f.durable) t g.published (decision.Fault Broken) commands (λ l c. tt) (omega arith)))
+      (subst (λ l. AreBorneOut base f.durable (length f.durable) l) (sym h.each)
+      (alike_borne_out base f.durable (length f.durable) t g.published (decision.Fault Broken) commands (λ l c. tt) (omega arith)))
   added_by commands answers false h = elim h [
     | inl done ↦ record {
       more = accepted_by commands done.outcomes;
@@ -68,9 +69,12 @@ module _ {D : Type 0} (base : State) (t : ℕ) (f g : Progress D) where
     }
     | inr rest ↦ elim rest [
       | inl refused ↦ added_none commands answers refused.durable
-          (subst (λ l. AreBorneOut base f.durable (length f.durable) l) (sym refused.each) (alike_borne_out base f.durable (length f.durable) t g.published (decision_by refused.fault) commands (says_nothing base refused.fault) (omega arith)))
+          (subst (λ l. AreBorneOut base f.durable (length f.durable) l) (sym refused.each)
+          (alike_borne_out base f.durable (length f.durable) t g.published (decision_by refused.fault) commands (says_nothing base refused.fault)
+          (omega arith)))
       | inr late ↦ added_none commands answers late.durable
-          (subst (λ l. AreBorneOut base f.durable (length f.durable) l) (sym late.each) (alike_borne_out base f.durable (length f.durable) t g.published decision.NoMemory commands (λ l c. tt) (omega arith)))
+          (subst (λ l. AreBorneOut base f.durable (length f.durable) l) (sym late.each)
+          (alike_borne_out base f.durable (length f.durable) t g.published decision.NoMemory commands (λ l c. tt) (omega arith)))
     ]
   ]
 
@@ -78,13 +82,15 @@ module _ {D : Type 0} (base : State) (t : ℕ) (f g : Progress D) where
   served_adds commands old new r = added_by commands r.answers f.store.broken r.served
 
   -- what was sent stays borne out, and so are the answers to them
-  pub served_sent : (commands : List G) (old new : List (AnswerSender Sent)) → IsHistory base f.durable → HasServed base t f g commands old new → AreSentInOrder base f.durable old → AreSentInOrder base g.durable new
+  pub served_sent : (commands : List G) (old new : List (AnswerSender Sent)) → IsHistory base f.durable → HasServed base t f g commands old new →
+      AreSentInOrder base f.durable old → AreSentInOrder base g.durable new
   served_sent commands old new a r sent =
       let h = served_adds commands old new r in
       subst (λ l. AreSentInOrder base l new) (sym h.durable) (sent_in_order base f.durable h.more old new r.answers sent (h.borne a) r.answered)
 
   -- the durable commands stay in the order in which they were taken
-  pub served_order : (popped taken : List Entry) (old new : List (AnswerSender Sent)) → HasServed base t f g (commands_among popped) old new → AreInOrder f.durable taken → AreInOrder g.durable (taken ++ popped)
+  pub served_order : (popped taken : List Entry) (old new : List (AnswerSender Sent)) → HasServed base t f g (commands_among popped) old new →
+      AreInOrder f.durable taken → AreInOrder g.durable (taken ++ popped)
   served_order popped taken old new r order =
       let h = served_adds (commands_among popped) old new r in
       subst (λ l. AreInOrder l (taken ++ popped)) (sym h.durable) (order_longer f.durable h.more taken popped order h.some)

@@ -5,6 +5,8 @@ use Rattle.std.specs.List.{AllByRecursion, AllZip}
 use Rattle.std.proofs.lemmas.List.Elements.{All-from_recursion, recursion_from_All}
 use Rattle.std.proofs.lemmas.List.{append-nil}
 use mathlib.Core.List.{IsPrefix}
+use Rattle.base.proofs.Options.{some_is}
+use Rattle.base.proofs.Lists.{all_after, get_within}
 use Rattle.snapshots.proofs.Prefixes.{prefix_trans}
 use Rattle.crossbeam_channel.specs.Ends.{sends_on, receives_on}
 use Rattle.centre_core.specs.State.{State}
@@ -25,7 +27,6 @@ use Rattle.flusher.specs.Closed.{AreSessionsOf, IsClosed}
 use Rattle.flusher.proofs.Borne.{are_prefix}
 use Rattle.flusher.proofs.Endings.{all_taken}
 use Rattle.flusher.proofs.Ordered.{settled_in_order}
-use Rattle.flusher.proofs.Runs.{within}
 
 -- what holds of so many of a list that they are all
 pub all_of_take : {X : Type 0} (P : X → Type 0) (xs : List X) (n : ℕ) → length xs ≤ n → All P (take n xs) → All P xs
@@ -49,10 +50,7 @@ module _ {A B : Type 0} where
   at_place R [] [] all k a b here there = absurd cc
   at_place R [] (y ∷ ys) all k a b here there = absurd all
   at_place R (x ∷ xs) [] all k a b here there = absurd all
-  at_place R (x ∷ xs) (y ∷ ys) all zero a b here there = subst (λ (q : A × B). R q.0 q.1) (λ i. (one x a here i, one y b there i)) all.0
-    where
-      one : {X : Type 0} (p q : X) → Some p ≡ Some q → p ≡ q
-      one p q e = cc
+  at_place R (x ∷ xs) (y ∷ ys) all zero a b here there = subst (λ (q : A × B). R q.0 q.1) (λ i. (some_is x a here i, some_is y b there i)) all.0
   at_place R (x ∷ xs) (y ∷ ys) all (suc k) a b here there = at_place R xs ys all.1 k a b here there
 
   -- what holds of each of the second list
@@ -71,12 +69,6 @@ module _ {A B : Type 0} where
       one p q e = cc
   value_at P value (y ∷ xs) all (suc k) x e = value_at P value xs all.1 k x e
 
-  pub zip_push : (R : A → B → Type 0) (xs : List A) (ys : List B) (x : A) (y : B) → AllZip R xs ys → R x y → AllZip R (xs ++ x ∷ []) (ys ++ y ∷ [])
-  zip_push R [] [] x y all one = (one, tt)
-  zip_push R [] (b ∷ ys) x y all one = absurd all
-  zip_push R (a ∷ xs) [] x y all one = absurd all
-  zip_push R (a ∷ xs) (b ∷ ys) x y all one = (all.0, zip_push R xs ys x y all.1 one)
-
   pub no_first : (R : A → B → Type 0) (xs : List A) (ys : List B) → AllZip R xs ys → ys ≡ [] → xs ≡ []
   no_first R [] ys all e = refl
   no_first R (x ∷ xs) [] all e = absurd all
@@ -89,17 +81,9 @@ module _ {A B : Type 0} where
   pub too_few : (R : A → B → Type 0) (xs : List A) (ys zs : List B) (y : B) → AllZip R xs ys → length xs ≡ 0 → ys ≡ y ∷ zs → ⊥
   too_few R xs ys zs y all e is = too_few_go R xs y zs (subst (AllZip R xs) is all) e
 
-pub no_items : {X : Type 0} (xs : List X) → length xs ≡ 0 → xs ≡ []
-no_items [] e = refl
-no_items (x ∷ xs) e = absurd (omega (arith, e))
-
-last_of_all : {X : Type 0} (P : X → Type 0) (xs ys : List X) → AllByRecursion P (xs ++ ys) → AllByRecursion P ys
-last_of_all P [] ys all = all
-last_of_all P (x ∷ xs) ys all = last_of_all P xs ys all.1
-
 -- what holds of all holds of the next one
 pub next_of_all : {X : Type 0} (P : X → Type 0) (xs ys all zs : List X) (x : X) → xs ++ ys ≡ all → ys ≡ x ∷ zs → All P all → P x
-next_of_all {X} P xs ys all zs x split is holds = (subst (AllByRecursion P) is (last_of_all P xs ys (recursion_from_All P (xs ++ ys) (subst (λ (l : List X). All P l) (sym split) holds)))).0
+next_of_all {X} P xs ys all zs x split is holds = (subst (AllByRecursion P) is (all_after P xs ys (recursion_from_All P (xs ++ ys) (subst (λ (l : List X). All P l) (sym split) holds)))).0
 
 -- the taker, once no sender or one more came back
 pub none_settled : (t : Taking) → t ≡ with_settled t []
@@ -110,22 +94,24 @@ more_settled t u v old one p q = q ∙ ap (λ (w : Taking). with_settled w (one 
 
 item_of : {X : Type 0} (P : X → Type 0) (xs : List X) → AllByRecursion P xs → (k : ℕ) (x : X) → slice_get xs k ≡ Some x → P x
 item_of P [] all k x e = absurd cc
-item_of {X} P (y ∷ xs) all zero x e = subst P (one y x e) all.0
-  where
-    one : (p q : X) → Some p ≡ Some q → p ≡ q
-    one p q e = cc
+item_of {X} P (y ∷ xs) all zero x e = subst P (some_is y x e) all.0
 item_of P (y ∷ xs) all (suc k) x e = item_of P xs all.1 k x e
 
 module _ {J D : Type 0} (f : FlusherView D) (ended : List (Ended J)) (sessions : AreSessionsOf f ended) where
   -- the queue and the channels of the sessions
   pub of_the_queue : All (λ (e : Ended J). e.sender.queue ≡ f.taker.queue) ended
-  of_the_queue = All-from_recursion (λ (e : Ended J). e.sender.queue ≡ f.taker.queue) ended (of_second (λ (e : Ended J). e.sender.queue ≡ f.taker.queue) f.senders ended (by_place (λ (a : AnswerSender Sent) (e : Ended J). e.sender.queue ≡ f.taker.queue) f.senders ended sessions.count (λ k a e here there. (sessions.each k a e here there).queue)))
+  of_the_queue = All-from_recursion (λ (e : Ended J). e.sender.queue ≡ f.taker.queue) ended
+      (of_second (λ (e : Ended J). e.sender.queue ≡ f.taker.queue) f.senders ended
+      (by_place (λ (a : AnswerSender Sent) (e : Ended J). e.sender.queue ≡ f.taker.queue) f.senders ended sessions.count
+      (λ k a e here there. (sessions.each k a e here there).queue)))
 
   pub of_the_channels : AllZip (λ (a : AnswerSender Sent) (e : Ended J). receives_on e.receiver.channel ≡ sends_on a.channel) f.senders ended
-  of_the_channels = by_place (λ (a : AnswerSender Sent) (e : Ended J). receives_on e.receiver.channel ≡ sends_on a.channel) f.senders ended sessions.count (λ k a e here there. (sessions.each k a e here there).channel)
+  of_the_channels = by_place (λ (a : AnswerSender Sent) (e : Ended J). receives_on e.receiver.channel ≡ sends_on a.channel) f.senders ended
+      sessions.count (λ k a e here there. (sessions.each k a e here there).channel)
 
   -- all ends were taken, both ends of each session were taken back, and each was compared with what is published
-  pub all_closed : (base : State) (before : List Settled) (items : List Entry) → IsSettled base f → HasTakenEnds f → AreAllSent f.taker.taken items (before ++ map (λ (e : Ended J). settled e.sender.station e.sender.sent) ended)
+  pub all_closed : (base : State) (before : List Settled) (items : List Entry) → IsSettled base f → HasTakenEnds f →
+      AreAllSent f.taker.taken items (before ++ map (λ (e : Ended J). settled e.sender.station e.sender.sent) ended)
       → AllZip (λ (a : AnswerSender Sent) (e : Ended J). IsPrefix (received_of e.receiver.pass) (sent_of a.pass)) f.senders ended
       → All (λ (e : Ended J). IsPrefix e.viewer f.published) ended → IsClosed base f ended
   all_closed base before items now has sent received seen = record {
@@ -133,8 +119,8 @@ module _ {J D : Type 0} (f : FlusherView D) (ended : List (Ended J)) (sessions :
         let is = (sessions.each k a e here there).station in
         let Sends : Settled → Type 0 = λ s. entries_of s.station (f.taker.taken ++ items) ≡ s.sent in
         let values : List Settled = map (λ (x : Ended J). settled x.sender.station x.sender.sent) ended in
-        let mine = value_at Sends (λ (x : Ended J). settled x.sender.station x.sender.sent) ended (last_of_all Sends before values (recursion_from_All Sends (before ++ values) sent)) k e there in
-        let last = subst (λ (n : ℕ). Contains f.taker.taken (EndOf n)) (sym is) (has k (within f.senders k a here)) in
+        let mine = value_at Sends (λ (x : Ended J). settled x.sender.station x.sender.sent) ended (all_after Sends before values (recursion_from_All Sends (before ++ values) sent)) k e there in
+        let last = subst (λ (n : ℕ). Contains f.taker.taken (EndOf n)) (sym is) (has k (get_within f.senders k a here)) in
         let took = all_taken e.sender.station f.taker.taken items e.sender.sent e.ended last mine in
         let got = at_place (λ (b : AnswerSender Sent) (x : Ended J). IsPrefix (received_of x.receiver.pass) (sent_of b.pass)) f.senders ended received k a e here there in
         record {

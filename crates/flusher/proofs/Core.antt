@@ -1,10 +1,11 @@
 -- Rounds, one after another, are one run of the core.
-use Rattle.std.specs.Prelude.{◌==◌, ◌<◌, ◌≤◌, replicate, Some, slice_get}
+use Rattle.std.specs.Prelude.{◌==◌, ◌<◌, ◌≤◌, replicate, Some}
 use Rattle.std.specs.List.{AllByRecursion}
 use Rattle.std.specs.declared.alloc.Global.{Global}
-use Rattle.std.proofs.Common.{◌≡◌, ◌⊎◌, inl, inr, ℕ, zero, suc, ◌+◌, Bool, true, false, cond, List, [], ◌∷◌, ◌++◌, length, take, refl, ap, sym, ◌∙◌, subst, append_assoc, true≢false}
+use Rattle.std.proofs.Common.{◌≡◌, inl, inr, ℕ, ◌+◌, Bool, true, false, cond, List, [], ◌∷◌, ◌++◌, take, refl, ap, sym, ◌∙◌, subst, append_assoc, true≢false}
 use Rattle.std.proofs.lemmas.List.{append-nil}
 use mathlib.Core.List.{IsPrefix, Sublist, nil-sublist}
+use Rattle.base.proofs.Lists.{some_beside}
 use mathlib.Core.List.Sublist
 use Rattle.sector_disk.specs.Disk.{View}
 use Rattle.crossbeam_channel.specs.Ends.{sends_on}
@@ -14,9 +15,9 @@ use Rattle.centre_core.specs.State.{State}
 use Rattle.schedule.specs.declared.event.Event.{Event}
 use Rattle.schedule.specs.declared.event.Event.TheVariants as event
 use Rattle.schedule.specs.World.{World, Line, Entry as Reply, line, opening}
-use Rattle.schedule.specs.Next.{Run, emptied}
+use Rattle.schedule.specs.Next.{Run}
 use Rattle.schedule.specs.Clauses.{IsOneLife}
-use Rattle.schedule.specs.Rounds.{at, fed, move_if, queues}
+use Rattle.schedule.specs.Rounds.{at, fed, move_if}
 use Rattle.schedule.proofs.Rounding.{run-append}
 use Rattle.recovery.specs.Lives.{StoreView}
 use Rattle.recovery.specs.declared.fault.StoreFault.TheVariants.{Broken}
@@ -33,10 +34,9 @@ use Rattle.flusher.specs.Rounds.{IsRound}
 use Rattle.flusher.specs.Runs.{AreRounds, next, none}
 use Rattle.flusher.specs.Served.{AreServedBy}
 use Rattle.flusher.specs.Shared.{commands_among}
-use Rattle.flusher.specs.Stages.{AreOwn, Sent, Stage, commands_of, entries_of, entry_of, is_own, sent_to_all, stage, world_of}
-use Rattle.flusher.specs.View.{FlusherView, Progress, is_checking, progress_of, stage_of}
+use Rattle.flusher.specs.Stages.{AreOwn, Sent, commands_of, entries_of, entry_of, sent_to_all, stage, world_of}
+use Rattle.flusher.specs.View.{FlusherView, is_checking, progress_of, stage_of}
 use Rattle.flusher.proofs.Batched.{commands_among-append}
-use Rattle.flusher.proofs.Borne.{some_at}
 use Rattle.flusher.proofs.Ordered.{take_is_some}
 use Rattle.flusher.proofs.Submits.{AreQuiet, first_of_them, of_the_stations, quiet_emptied, quiet_new, submits, submits_run}
 
@@ -176,7 +176,7 @@ have_answered_both : (old mid new : List (AnswerSender Sent)) (xs ys : List Sent
 have_answered_both old mid new xs ys h k = record {
   count = k.count ∙ h.count;
   each = λ n a c here there.
-      let m = some_at mid new n c k.count there in
+      let m = some_beside mid new n c k.count there in
       let one = h.each n a m.0 here m.1 in
       let two = k.each n m.0 c m.1 there in (
         two.0 ∙ one.0,
@@ -191,7 +191,8 @@ have_answered_none old = record { count = refl; each = λ k a b here there. same
     same : (a b : AnswerSender Sent) (s : ℕ) → Some a ≡ Some b → (sends_on b.channel ≡ sends_on a.channel) × HasAnswered (sent_of a.pass) (sent_of b.pass) a.gone b.gone (answers_to s [])
     same a b s e =
         let is : a ≡ b = cc in
-        subst (λ (z : AnswerSender Sent). (sends_on z.channel ≡ sends_on a.channel) × HasAnswered (sent_of a.pass) (sent_of z.pass) a.gone z.gone (answers_to s [])) is (refl, still (sent_of a.pass) a.gone)
+        subst (λ (z : AnswerSender Sent). (sends_on z.channel ≡ sends_on a.channel) ×
+        HasAnswered (sent_of a.pass) (sent_of z.pass) a.gone z.gone (answers_to s [])) is (refl, still (sent_of a.pass) a.gone)
       where
         still : (l : List Sent) (gone : Bool) → HasAnswered l l gone gone []
         still l true = record { kept = λ _. (refl, refl); sent = inr (refl, prefix_self l, ([], refl)) }
@@ -294,7 +295,9 @@ module _ {D : Type 0} (view : D → View) (base : State) where
         answered = r.served.answered;
         events = submits mine ++ core.events;
         one_life = one_life_both (submits mine) core.events (one_life_submits mine) (one_life_own core.events core.own);
-        submitted = subst (λ l. Sublist l (commands_among r.popped)) (sym (submissions-append (submits mine) core.events ∙ ap (λ l. l ++ submissions core.events) (submits_them mine) ∙ ap (λ l. mine ++ l) (submits_own core.events core.own) ∙ append-nil mine))
+        submitted = subst (λ l. Sublist l (commands_among r.popped))
+            (sym (submissions-append (submits mine) core.events ∙ ap (λ l. l ++ submissions core.events) (submits_them mine) ∙
+            ap (λ l. mine ++ l) (submits_own core.events core.own) ∙ append-nil mine))
             (take_is_some core.reached (commands_among r.popped));
         lines = later;
         run = run-append base (submits mine) core.events _ _ _ begin rest;
@@ -337,7 +340,9 @@ module _ {D : Type 0} (view : D → View) (base : State) where
         answered = all.answered;
         events = begins b ++ all.events;
         one_life = one_life_both (begins b) all.events (begins_one_life b) all.one_life;
-        submitted = subst (λ (q : List G × List Entry). Sublist q.0 (commands_among q.1)) (λ i. (sym (submissions-append (begins b) all.events ∙ ap (λ l. l ++ submissions all.events) (begins_without b)) i, sym popped i)) all.submitted;
+        submitted = subst (λ (q : List G × List Entry). Sublist q.0 (commands_among q.1))
+            (λ i. (sym (submissions-append (begins b) all.events ∙ ap (λ l. l ++ submissions all.events) (begins_without b)) i, sym popped i))
+            all.submitted;
         lines = all.lines;
         run = run-append base (begins b) all.events _ _ _ (subst (λ s. Run base (opening n) (begins b) (at (world_of s []) xs)) at_first (begun base n b)) all.run;
       }

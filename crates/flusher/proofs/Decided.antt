@@ -27,7 +27,8 @@ use Rattle.flusher.specs.Batches.{accepted_by}
 abbrev G : Type 0
 G = Asked Global
 
-kept_in_prefix : (base : State) (published l : List G) (c : G) (n : ℕ) (p : Option (List Bool)) → IsPrefix published l → IsKeptOf base l c n p → n ≤ base.count + length published → IsKeptOf base published c n p
+kept_in_prefix : (base : State) (published l : List G) (c : G) (n : ℕ) (p : Option (List Bool)) → IsPrefix published l → IsKeptOf base l c n p →
+    n ≤ base.count + length published → IsKeptOf base published c n p
 kept_in_prefix base published l c n p pre h le =
     elim h [
       | inl q ↦ inl (left_prefix base published pre.0 c.station (last_of c n p) (subst (λ m. IsLeftBy base m c.station (last_of c n p)) (sym pre.1) q) le)
@@ -35,7 +36,8 @@ kept_in_prefix base published l c n p pre h le =
     ]
 
 -- what all that is durable bears out, the published list does
-borne_by : (base : State) (published l : List G) (all : Bool) → (all ≡ true → published ≡ l) → IsPrefix published l → IsHistory base l → (c : G) (r : Reply Global) → IsBorneOut base l (c, r) → BearsOut base published c (answer_from all r)
+borne_by : (base : State) (published l : List G) (all : Bool) → (all ≡ true → published ≡ l) → IsPrefix published l → IsHistory base l →
+    (c : G) (r : Reply Global) → IsBorneOut base l (c, r) → BearsOut base published c (answer_from all r)
 borne_by base published l true whole pre a c (Accepted n p) h = subst (λ m. Lands base m c n p) (sym (whole refl)) h
 borne_by base published l false whole pre a c (Accepted n p) h = kept_in_prefix base published l c n p pre (inl (record { first = c; of_station = refl; of_sequence = refl; lands = h }))
 borne_by base published l all whole pre a c (Kept n p) h = kept_in_prefix base published l c n p pre h
@@ -46,7 +48,8 @@ none_borne base published all [] k = tt
 none_borne base published all (c ∷ cs) zero = tt
 none_borne base published all (c ∷ cs) (suc k) = (tt, none_borne base published all cs k)
 
-are_borne : (base : State) (published l : List G) (all : Bool) → (all ≡ true → published ≡ l) → IsPrefix published l → IsHistory base l → (xs ys : List G) (s : State) (k : ℕ) → AllByRecursion (IsBorneOut base l) (with_replies Global s xs)
+are_borne : (base : State) (published l : List G) (all : Bool) → (all ≡ true → published ≡ l) → IsPrefix published l → IsHistory base l →
+    (xs ys : List G) (s : State) (k : ℕ) → AllByRecursion (IsBorneOut base l) (with_replies Global s xs)
     → BearsOutDecisions base published all (xs ++ ys) (map outcome.Replied (replies Global s xs) ++ replicate k outcome.NoMemory)
 are_borne base published l all whole pre a [] ys s k h = none_borne base published all ys k
 are_borne base published l all whole pre a (x ∷ xs) ys s k h = (borne_by base published l all whole pre a x (reply_to s x) h.0, are_borne base published l all whole pre a xs ys (next s x) k h.1)
@@ -57,7 +60,9 @@ none_answered t published all (c ∷ cs) zero = refl
 none_answered t published all (c ∷ cs) (suc k) = none_answered t published all cs k
 
 -- the replies are the core's answers
-entries_by : (t : ℕ) (published : List G) (all : Bool) (xs ys : List G) (s : State) (k : ℕ) → entries_of (sent_by t published all (xs ++ ys) (map outcome.Replied (replies Global s xs) ++ replicate k outcome.NoMemory)) ≡ answered all (with_replies Global s xs)
+entries_by : (t : ℕ) (published : List G) (all : Bool) (xs ys : List G) (s : State) (k : ℕ) →
+    entries_of (sent_by t published all (xs ++ ys) (map outcome.Replied (replies Global s xs) ++ replicate k outcome.NoMemory)) ≡ answered all
+    (with_replies Global s xs)
 entries_by t published all [] ys s k = none_answered t published all ys k
 entries_by t published all (x ∷ xs) ys s k = ap (λ es. (x, answer_from all (reply_to s x)) ∷ es) (entries_by t published all xs ys (next s x) k)
 
@@ -72,7 +77,8 @@ accepted_are [] ys s k = none_accepted ys k
 accepted_are (x ∷ xs) ys s k = by (reply_to s x) (accepted_are xs ys (next s x) k)
   where
     by : (r : Reply Global) → accepted_by (xs ++ ys) (map outcome.Replied (replies Global (next s x) xs) ++ replicate k outcome.NoMemory) ≡ taken (next s x) xs
-        → accepted_by (x ∷ xs ++ ys) (outcome.Replied r ∷ (map outcome.Replied (replies Global (next s x) xs) ++ replicate k outcome.NoMemory)) ≡ cond (is_acceptance r) (x ∷ taken (next s x) xs) (taken (next s x) xs)
+        → accepted_by (x ∷ xs ++ ys) (outcome.Replied r ∷ (map outcome.Replied (replies Global (next s x) xs) ++ replicate k outcome.NoMemory)) ≡ cond
+        (is_acceptance r) (x ∷ taken (next s x) xs) (taken (next s x) xs)
     by (Accepted n p) h = ap (λ l. x ∷ l) h
     by (Kept n p) h = h
     by (Refused r) h = h
@@ -98,7 +104,8 @@ pub record Comes (base : State) (log cmds : List G) (t : State) (os : List (Outc
   pub history : IsHistory base (log ++ taken (after base log) (take reached cmds))
   pub state : t ≡ after base (log ++ taken (after base log) (take reached cmds))
   pub entries : (t : ℕ) (published : List G) (all : Bool) → entries_of (sent_by t published all cmds os) ≡ answered all (with_replies Global (after base log) (take reached cmds))
-  pub borne_out : (published : List G) (all : Bool) → (all ≡ true → published ≡ log ++ taken (after base log) (take reached cmds)) → IsPrefix published (log ++ taken (after base log) (take reached cmds)) → BearsOutDecisions base published all cmds os
+  pub borne_out : (published : List G) (all : Bool) → (all ≡ true → published ≡ log ++ taken (after base log) (take reached cmds)) →
+      IsPrefix published (log ++ taken (after base log) (take reached cmds)) → BearsOutDecisions base published all cmds os
 
 pub comes : (base s t : State) (log cmds : List G) (os : List (Outcome Global)) → IsHistory base log → s ≡ after base log → IsAnswered s cmds t os → Comes base log cmds t os
 comes base s t log cmds os a at h =
@@ -108,7 +115,8 @@ comes base s t log cmds os a at h =
     let b = after base log in
     let most = h.end.most in
     let parts : xs ++ ys ≡ cmds = take-append-drop n cmds in
-    let is : map outcome.Replied (replies Global b xs) ++ replicate (length cmds - n) outcome.NoMemory ≡ os = ap (λ u. map outcome.Replied (replies Global u xs) ++ replicate (length cmds - n) outcome.NoMemory) (sym at) ∙ sym h.outcomes_are in
+    let is : map outcome.Replied (replies Global b xs) ++ replicate (length cmds - n) outcome.NoMemory ≡ os =
+    ap (λ u. map outcome.Replied (replies Global u xs) ++ replicate (length cmds - n) outcome.NoMemory) (sym at) ∙ sym h.outcomes_are in
     let well = batches_borne base log xs a in
     let long = length-take-le n cmds most in
     let l1 = length-replies b xs in
@@ -123,5 +131,6 @@ comes base s t log cmds os a at h =
       history = well.0;
       state = h.state ∙ ap (λ u. after u xs) at ∙ sym (after_taken b xs) ∙ sym (after-append base log (taken b xs));
       entries = λ u published all. (λ j. entries_of (sent_by u published all (sym parts j) (sym is j))) ∙ entries_by u published all xs ys b (length cmds - n);
-      borne_out = λ published all whole pre. subst (λ (q : List G × List (Outcome Global)). BearsOutDecisions base published all q.0 q.1) (λ j. (parts j, is j)) (are_borne base published (log ++ taken b xs) all whole pre well.0 xs ys b (length cmds - n) well.1);
+      borne_out = λ published all whole pre. subst (λ (q : List G × List (Outcome Global)). BearsOutDecisions base published all q.0 q.1)
+          (λ j. (parts j, is j)) (are_borne base published (log ++ taken b xs) all whole pre well.0 xs ys b (length cmds - n) well.1);
     }

@@ -1,10 +1,11 @@
 -- The ends of sessions among the entries of the queue.
-use Rattle.std.proofs.Common.{◌≡◌, ◌≢◌, ◌⊎◌, inl, inr, ℕ, zero, suc, ◌+◌, ◌-◌, ◌<◌, ◌≤◌, ◌==◌, Bool, true, false, cond, true≢false, List, [], ◌∷◌, ◌++◌, set, replicate, sym, refl, ap, ◌∙◌, subst, ⊎_elim, append_assoc, arith}
+use Rattle.std.proofs.Common.{◌≡◌, ◌≢◌, ◌⊎◌, inl, inr, ℕ, zero, suc, ◌+◌, ◌-◌, ◌<◌, ◌≤◌, ◌==◌, Bool, true, false, cond, true≢false, List, [], ◌∷◌}
+use Rattle.std.proofs.Common.{◌++◌, set, replicate, sym, refl, ap, ◌∙◌, subst, ⊎_elim, append_assoc, arith}
 use Rattle.std.specs.Prelude.{Some, slice_get, slice_index_or, Contains}
 use Rattle.std.specs.List.{AllByRecursion}
 use Rattle.std.proofs.lemmas.List.{append-nil}
 use Rattle.std.proofs.lemmas.List.Elements.{Contains-append_left, Contains-append_right, Contains-push, Contains-push_cases, Contains-append_cases}
-use Rattle.std.proofs.lemmas.Bool.Decides.{nat_tests}
+use Rattle.base.proofs.Numbers.{same_test}
 use Rattle.station_queue.specs.declared.entry.Entry.{Entry}
 use Rattle.station_queue.specs.declared.entry.Entry.TheVariants.{Submitted, Ended}
 use Rattle.station_queue.specs.declared.entry.Request.{Request}
@@ -13,9 +14,6 @@ use Rattle.station_queue.specs.Entries.{station_of, entries_of}
 use Rattle.flusher.specs.Endings.{AreEnded}
 use Rattle.flusher.specs.Submitted.{is_ended}
 use Rattle.flusher.specs.Batches.{HasTaken, ended_by}
-
-same_test : (a : ℕ) → (a == a) ≡ true
-same_test a = grind (arith, nat_tests)
 
 not_submitted : (r : Request) (s : ℕ) → Submitted r ≡ Ended s → ⊥
 not_submitted r s e = cc
@@ -47,7 +45,8 @@ among_own s [] h = absurd (omega (arith, h.1))
 among_own s (x ∷ xs) h = ⊎_elim here (λ (e : Contains xs (Ended s)). later (station_of x == s) (among_own s xs e)) (first_or_later x (Ended s) xs h)
   where
     here : x ≡ Ended s → Contains (entries_of s (x ∷ xs)) (Ended s)
-    here e = subst (λ (y : Entry). Contains (entries_of s (y ∷ xs)) (Ended s)) (sym e) (subst (λ (b : Bool). Contains (cond b (Ended s ∷ entries_of s xs) (entries_of s xs)) (Ended s)) (sym (same_test s)) (0, omega arith, refl))
+    here e = subst (λ (y : Entry). Contains (entries_of s (y ∷ xs)) (Ended s)) (sym e)
+        (subst (λ (b : Bool). Contains (cond b (Ended s ∷ entries_of s xs) (entries_of s xs)) (Ended s)) (sym (same_test s)) (0, omega arith, refl))
 
     later : (b : Bool) → Contains (entries_of s xs) (Ended s) → Contains (cond b (x ∷ entries_of s xs) (entries_of s xs)) (Ended s)
     later true e = Contains-append_right (x ∷ []) (entries_of s xs) (Ended s) e
@@ -66,7 +65,10 @@ after_end t (x ∷ xs) e = absurd (true≢false (sym e))
 -- where the first of such entries have an end, they are all
 end_is_last : (s : ℕ) (xs ys : List Entry) → is_ended (xs ++ ys) ≡ true → Contains xs (Ended s) → ys ≡ []
 end_is_last s [] ys ends h = absurd (omega (arith, h.1))
-end_is_last s (Submitted r ∷ xs) ys ends h = end_is_last s xs ys ends (⊎_elim (λ (e : Submitted r ≡ Ended s). absurd (not_submitted r s e)) (λ (e : Contains xs (Ended s)). e) (first_or_later (Submitted r) (Ended s) xs h))
+end_is_last s (Submitted r ∷ xs) ys ends h =
+    end_is_last s xs ys ends
+    (⊎_elim (λ (e : Submitted r ≡ Ended s). absurd (not_submitted r s e)) (λ (e : Contains xs (Ended s)). e)
+    (first_or_later (Submitted r) (Ended s) xs h))
 end_is_last s (Ended t ∷ xs) ys ends h = none_left xs ys (after_end t (xs ++ ys) ends)
 
 -- A station has sent its commands and then its end, and these are what was taken of it and what the queue still has. If
@@ -84,13 +86,16 @@ at_set [] i k v b e = absurd cc
 at_set (x ∷ l) zero zero v b e = inl (refl, cc)
 at_set (x ∷ l) zero (suc k) v b e = inr ((λ z. omega (arith, z)), e)
 at_set (x ∷ l) (suc i) zero v b e = inr ((λ z. omega (arith, z)), e)
-at_set (x ∷ l) (suc i) (suc k) v b e = ⊎_elim (λ (h : (k ≡ i) × (v ≡ b)). inl (ap suc h.0, h.1)) (λ (h : (k ≢ i) × (slice_get l k ≡ Some b)). inr ((λ z. h.0 (omega (arith, z))), h.1)) (at_set l i k v b e)
+at_set (x ∷ l) (suc i) (suc k) v b e =
+    ⊎_elim (λ (h : (k ≡ i) × (v ≡ b)). inl (ap suc h.0, h.1)) (λ (h : (k ≢ i) × (slice_get l k ≡ Some b)). inr ((λ z. h.0 (omega (arith, z))), h.1))
+    (at_set l i k v b e)
 
 -- one more entry was taken
 ended_with : (flags : List Bool) (taken : List Entry) (x : Entry) → 0 < station_of x → AreEnded flags taken → AreEnded (ended_by (x ∷ []) flags) (taken ++ x ∷ [])
 ended_with flags taken (Submitted r) some was k flag at = (
   (λ t. Contains-append_left taken (Submitted r ∷ []) (Ended (k + 1)) ((was k flag at).0 t)),
-  (λ h. ⊎_elim (λ (e : Contains taken (Ended (k + 1))). (was k flag at).1 e) (λ (e : Submitted r ≡ Ended (k + 1)). absurd (not_submitted r (k + 1) e)) (Contains-push_cases taken (Submitted r) (Ended (k + 1)) h)),
+  (λ h. ⊎_elim (λ (e : Contains taken (Ended (k + 1))). (was k flag at).1 e) (λ (e : Submitted r ≡ Ended (k + 1)). absurd (not_submitted r (k + 1) e))
+      (Contains-push_cases taken (Submitted r) (Ended (k + 1)) h)),
 )
 ended_with flags taken (Ended s) some was k flag at = ⊎_elim this other (at_set flags (s - 1) k true flag at)
   where
@@ -107,14 +112,18 @@ ended_with flags taken (Ended s) some was k flag at = ⊎_elim this other (at_se
     other : (k ≢ s - 1) × (slice_get flags k ≡ Some flag) → Holds
     other e = (
       (λ t. Contains-append_left taken (Ended s ∷ []) (Ended (k + 1)) ((was k flag e.1).0 t)),
-      (λ h. ⊎_elim (λ (c : Contains taken (Ended (k + 1))). (was k flag e.1).1 c) (λ (c : Ended s ≡ Ended (k + 1)). absurd (e.0 (let is = station_is s (k + 1) c in omega (arith, is)))) (Contains-push_cases taken (Ended s) (Ended (k + 1)) h)),
+      (λ h. ⊎_elim (λ (c : Contains taken (Ended (k + 1))). (was k flag e.1).1 c)
+          (λ (c : Ended s ≡ Ended (k + 1)). absurd (e.0 (let is = station_is s (k + 1) c in omega (arith, is))))
+          (Contains-push_cases taken (Ended s) (Ended (k + 1)) h)),
     )
 
 -- more entries were taken, each of a station
-pub ended_on : (made : ℕ) (flags : List Bool) (taken popped : List Entry) → AllByRecursion (λ (x : Entry). (0 < station_of x) × (station_of x ≤ made)) popped → AreEnded flags taken → AreEnded (ended_by popped flags) (taken ++ popped)
+pub ended_on : (made : ℕ) (flags : List Bool) (taken popped : List Entry) → AllByRecursion (λ (x : Entry). (0 < station_of x) × (station_of x ≤ made))
+    popped → AreEnded flags taken → AreEnded (ended_by popped flags) (taken ++ popped)
 ended_on made flags taken [] all was = subst (AreEnded flags) (sym (append-nil taken)) was
 ended_on made flags taken (x ∷ popped) all was =
-    subst (λ (q : List Bool × List Entry). AreEnded q.0 q.1) (λ i. (one_by_one x i, append_assoc taken (x ∷ []) popped i)) (ended_on made (ended_by (x ∷ []) flags) (taken ++ x ∷ []) popped all.1 (ended_with flags taken x all.0.0 was))
+    subst (λ (q : List Bool × List Entry). AreEnded q.0 q.1) (λ i. (one_by_one x i, append_assoc taken (x ∷ []) popped i))
+    (ended_on made (ended_by (x ∷ []) flags) (taken ++ x ∷ []) popped all.1 (ended_with flags taken x all.0.0 was))
   where
     one_by_one : (y : Entry) → ended_by popped (ended_by (y ∷ []) flags) ≡ ended_by (y ∷ popped) flags
     one_by_one (Submitted r) = refl

@@ -1,9 +1,8 @@
 -- How a round goes in the core.
-use Rattle.std.specs.Prelude.{◌==◌}
 use Rattle.std.specs.declared.alloc.Global.{Global}
-use Rattle.std.proofs.lemmas.Bool.Decides.{nat_tests}
 use Rattle.std.proofs.Common.{◌≡◌, inl, inr, ℕ, ◌<◌, ◌≤◌, Bool, true, false, not, cond, List, [], ◌∷◌, ◌++◌, length, take, refl, ap, sym, ◌∙◌, subst, arith, length-append, length-take}
 use Rattle.std.proofs.lemmas.List.{append-nil, take_all, take_at}
+use Rattle.base.proofs.Numbers.{same_test, less_not_same}
 use Rattle.centre_core.specs.Asked.{Asked}
 use Rattle.centre_core.specs.State.{State}
 use Rattle.centre_core.specs.History.{after}
@@ -19,12 +18,6 @@ use Rattle.flusher.proofs.Own.{own_both, own_move, own_room, own_round, own_stop
 
 abbrev G : Type 0
 G = Asked Global
-
-same_count : (n : ℕ) → (n == n) ≡ true
-same_count n = grind (arith, nat_tests)
-
-other_count : (m n : ℕ) → m < n → (m == n) ≡ false
-other_count m n h = grind (arith, nat_tests)
 
 idle : (list durable : List G) (checking : Bool) (a : List (Entry Global)) → IsIdle (world_of (stage list durable checking false) a)
 idle list durable checking a = record { up = refl; none_in_flight = refl; none_sealed = refl; none_owed = refl }
@@ -69,7 +62,8 @@ moved_run base false true list durable a xs = (at (world_of (stage list durable 
 moved_run base true true list durable a xs = (at (world_of (stage list durable false false) a) xs, (refl, refl), refl)
 
 after_room_run : (base : State) (checking made_room moved : Bool) (list durable : List G) (a : List (Entry Global)) (xs : List (Line Global))
-    → Run base (at (world_of (stage list durable checking false) a) xs) (room_if checking made_room ++ move_if (cond made_room false checking) moved) (at (world_of (stage list durable (under_way (cond made_room false checking) moved) false) a) xs)
+    → Run base (at (world_of (stage list durable checking false) a) xs) (room_if checking made_room ++ move_if (cond made_room false checking) moved)
+    (at (world_of (stage list durable (under_way (cond made_room false checking) moved) false) a) xs)
 after_room_run base false false moved list durable a xs = moved_run base false moved list durable a xs
 after_room_run base true false moved list durable a xs = moved_run base true moved list durable a xs
 after_room_run base false true moved list durable a xs =
@@ -94,7 +88,8 @@ rested base f cmds answers none = record {
 }
 
 -- a round that list, and then committed nothing; a checkpoint may have been made
-pub only_published : (base : State) (list durable cmds : List G) (made_room was now : Bool) (answers : List Sent) → entries_of answers ≡ [] → HasRun base (stage list durable was false) (stage durable durable now false) cmds answers
+pub only_published : (base : State) (list durable cmds : List G) (made_room was now : Bool) (answers : List Sent) → entries_of answers ≡ [] →
+    HasRun base (stage list durable was false) (stage durable durable now false) cmds answers
 only_published base list durable cmds made_room was now answers none =
     let how = how_of made_room was now true in
     record {
@@ -109,18 +104,20 @@ only_published base list durable cmds made_room was now answers none =
 
 -- ---- a round that committed some
 
-came : (base : State) (log : List G) (c : G) (cs : List G) (all made_room was now : Bool) (a new : List (Entry Global)) → (all ≡ false → 0 < length (taken (after base log) (c ∷ cs))) → new ≡ answered all (with_replies Global (after base log) (c ∷ cs))
+came : (base : State) (log : List G) (c : G) (cs : List G) (all made_room was now : Bool) (a new : List (Entry Global)) →
+    (all ≡ false → 0 < length (taken (after base log) (c ∷ cs))) → new ≡ answered all (with_replies Global (after base log) (c ∷ cs))
     → after_round base (world_of (stage [] log was false) a) (c ∷ cs) (how_of made_room was now all)
     ≡ world_of (stage (cond all (log ++ taken (after base log) (c ∷ cs)) log) (log ++ taken (after base log) (c ∷ cs)) now false) (a ++ new)
 came base log c cs true made_room was now a new some is =
     let l = log ++ taken (after base log) (c ∷ cs) in
-    λ i. world_of (stage l l (arrives made_room was now true i) false) (a ++ (ap (λ b. answered b (with_replies Global (after base log) (c ∷ cs))) (same_count (length l)) ∙ sym is) i)
+    λ i. world_of (stage l l (arrives made_room was now true i) false) (a ++ (ap (λ b. answered b (with_replies Global (after base log) (c ∷ cs))) (same_test (length l)) ∙ sym is) i)
 came base log c cs false made_room was now a new some is =
     let ts = taken (after base log) (c ∷ cs) in
     let l = log ++ ts in
     let more = some refl in
     let less : length log < length l = omega (arith, length-append log ts, more) in
-    λ i. world_of (stage log l (arrives made_room was now false i) false) (a ++ (ap (λ b. answered b (with_replies Global (after base log) (c ∷ cs))) (other_count (length log) (length l) less) ∙ sym is) i)
+    λ i. world_of (stage log l (arrives made_room was now false i) false)
+    (a ++ (ap (λ b. answered b (with_replies Global (after base log) (c ∷ cs))) (less_not_same (length log) (length l) less) ∙ sym is) i)
 
 abbrev RunsTo : State → Stage → Stage → List G → List (Entry Global) → Type 0
 RunsTo base f g ys new = (es : List (Event Global)) × AreOwn es × ((a : List (Entry Global)) → Goes base ys es (world_of f a) (world_of g (a ++ new)))
@@ -143,11 +140,13 @@ ran_by base list log all (c ∷ cs) made_room was now new small some is =
     let f = stage list log was false in (
       events_of was how (c ∷ cs),
       own_round was how (c ∷ cs),
-      λ a. subst (λ (w : World Global). Goes base (c ∷ cs) (events_of was how (c ∷ cs)) (world_of f a) w) (came base log c cs all made_room was now a new some is) (rounds_run base (world_of f a) how c cs (idle list log was a) small),
+      λ a. subst (λ (w : World Global). Goes base (c ∷ cs) (events_of was how (c ∷ cs)) (world_of f a) w)
+          (came base log c cs all made_room was now a new some is) (rounds_run base (world_of f a) how c cs (idle list log was a) small),
     )
 
 -- a round whose commit was answered
-pub ran : (base : State) (list log : List G) (all : Bool) (cmds : List G) (n : ℕ) (made_room was now : Bool) (answers : List Sent) → length cmds ≤ 64 → (all ≡ false → 0 < length (taken (after base log) (take n cmds)))
+pub ran : (base : State) (list log : List G) (all : Bool) (cmds : List G) (n : ℕ) (made_room was now : Bool) (answers : List Sent) →
+    length cmds ≤ 64 → (all ≡ false → 0 < length (taken (after base log) (take n cmds)))
     → entries_of answers ≡ answered all (with_replies Global (after base log) (take n cmds))
     → HasRun base (stage list log was false) (stage (cond all (log ++ taken (after base log) (take n cmds)) log) (log ++ taken (after base log) (take n cmds)) now false) cmds answers
 ran base list log all cmds n made_room was now answers small some is =
@@ -160,7 +159,8 @@ whole : (base : State) (log ps : List G) → take (length log) (log ++ ps) ++ []
 whole base log ps = append-nil (take (length log) (log ++ ps)) ∙ take_at log ps (length log) refl
 
 -- in its commit: as the flusher knows it, no record came through
-crashed : (base : State) (list log : List G) (c : G) (cs : List G) (made_room was : Bool) (answers : List Sent) → length (c ∷ cs) ≤ 64 → entries_of answers ≡ [] → HasRun base (stage list log was false) (stage log log false true) (c ∷ cs) answers
+crashed : (base : State) (list log : List G) (c : G) (cs : List G) (made_room was : Bool) (answers : List Sent) → length (c ∷ cs) ≤ 64 →
+    entries_of answers ≡ [] → HasRun base (stage list log was false) (stage log log false true) (c ∷ cs) answers
 crashed base list log c cs made_room was answers small none =
     let ps = c ∷ cs in
     let es = stopped_commit was made_room ps 0 in
@@ -174,14 +174,16 @@ crashed base list log c cs made_room was answers small none =
         none = none;
         stops = λ a.
             let f = world_of (stage list log was false) a in
-            let end : after_stop f (log ++ taken (after base log) ps) [] ≡ world_of (stage log log false true) a = λ i. record (world_of (stage log log false true) a) { accepted = whole base log (taken (after base log) ps) i } in
+            let end : after_stop f (log ++ taken (after base log) ps) [] ≡ world_of (stage log log false true) a = λ i.
+            record (world_of (stage log log false true) a) { accepted = whole base log (taken (after base log) ps) i } in
             subst (λ (l : List G). GoesDown base l es f (world_of (stage log log false true) a)) (sym (take_all (length ps) ps (omega arith)))
             (subst (λ (w : World Global). GoesDown base ps es f w) end (crashed_rounds_run base f made_room c cs 0 (idle list log was a) small (omega arith)));
       });
     }
 
 -- in the checkpoint before it
-crashed_before : (base : State) (list log cmds : List G) (was : Bool) (answers : List Sent) → length cmds ≤ 64 → entries_of answers ≡ [] → HasRun base (stage list log was false) (stage log log false true) cmds answers
+crashed_before : (base : State) (list log cmds : List G) (was : Bool) (answers : List Sent) → length cmds ≤ 64 → entries_of answers ≡ [] →
+    HasRun base (stage list log was false) (stage log log false true) cmds answers
 crashed_before base list log cmds was answers small none =
     let es = stopped_checkpoint was cmds in
     record {
@@ -194,13 +196,16 @@ crashed_before base list log cmds was answers small none =
         none = none;
         stops = λ a.
             let f = world_of (stage list log was false) a in
-            let end : after_stop f log [] ≡ world_of (stage log log false true) a = λ i. record (world_of (stage log log false true) a) { accepted = (append-nil (take (length log) log) ∙ take_all (length log) log (omega arith)) i } in
+            let end : after_stop f log [] ≡ world_of (stage log log false true) a = λ i.
+            record (world_of (stage log log false true) a)
+            { accepted = (append-nil (take (length log) log) ∙ take_all (length log) log (omega arith)) i } in
             subst (λ (l : List G). GoesDown base l es f (world_of (stage log log false true) a)) (sym (take_all (length cmds) cmds (omega arith)))
             (subst (λ (w : World Global). GoesDown base cmds es f w) end (crashed_checkpoints_run base f cmds (idle list log was a) small));
       });
     }
 
-pub stopped : (base : State) (list log cmds : List G) (in_checkpoint made_room was : Bool) (answers : List Sent) → (cmds ≡ [] → ⊥) → length cmds ≤ 64 → entries_of answers ≡ [] → HasRun base (stage list log was false) (stage log log false true) cmds answers
+pub stopped : (base : State) (list log cmds : List G) (in_checkpoint made_room was : Bool) (answers : List Sent) → (cmds ≡ [] → ⊥) →
+    length cmds ≤ 64 → entries_of answers ≡ [] → HasRun base (stage list log was false) (stage log log false true) cmds answers
 stopped base list log cmds true made_room was answers some small none = crashed_before base list log cmds was answers small none
 stopped base list log [] false made_room was answers some small none = absurd (some refl)
 stopped base list log (c ∷ cs) false made_room was answers some small none = crashed base list log c cs made_room was answers small none

@@ -37,7 +37,8 @@ module _ {D : Type 0} (view : D → View) where
   pub keeps_self : (store : StoreView Global D) → ((view store.disk).honest → IsSound (view store.disk)) → HoldsImages view store store
   keeps_self store sound honest stored = record {
     honest = honest;
-    any_moment = only_before Global store.register store.register (view store.disk) (view store.disk) (nothing_done Global store.layout store.side store.epoch store.journal store.register (view store.disk) stored.stored (sound honest));
+    any_moment = only_before Global store.register store.register (view store.disk) (view store.disk)
+        (nothing_done Global store.layout store.side store.epoch store.journal store.register (view store.disk) stored.stored (sound honest));
     kept = λ up. stored;
   }
 
@@ -116,7 +117,9 @@ module _ {D : Type 0} (view : D → View) (base : State) (f g : FlusherView D) (
   }
 
   -- the disk failed in the commit
-  failed_by : f.store.register ≡ after base f.durable → AreInOrder f.durable f.taker.taken → g.durable ≡ f.durable → (g.store.register ≡ f.store.register) ⊎ IsAfterBatch f.store.register batch g.store.register → InEach (view g.store.disk) (OpensToEither Global f.store.register g.store.register)
+  failed_by : f.store.register ≡ after base f.durable → AreInOrder f.durable f.taker.taken → g.durable ≡ f.durable →
+      (g.store.register ≡ f.store.register) ⊎ IsAfterBatch f.store.register batch g.store.register →
+      InEach (view g.store.disk) (OpensToEither Global f.store.register g.store.register)
       → (more : List G) × AreUnderWay base g more × InEach (view g.store.disk) (OpensToEither Global (after base g.durable) (after base (g.durable ++ more)))
   failed_by made order same (inl q) each =
       let was : f.store.register ≡ after base g.durable = made ∙ ap (after base) (sym same) in (
@@ -142,7 +145,8 @@ module _ {D : Type 0} (view : D → View) (base : State) (f g : FlusherView D) (
       )
 
   -- a batch was committed, or the disk failed in it
-  pub stored_on : f.store.broken ≡ false → f.store.register ≡ after base f.durable → AreInOrder f.durable f.taker.taken → HoldsImages view f.store g.store → (g.store.broken ≡ true → HasBroken batch f.store g.store × (g.durable ≡ f.durable))
+  pub stored_on : f.store.broken ≡ false → f.store.register ≡ after base f.durable → AreInOrder f.durable f.taker.taken →
+      HoldsImages view f.store g.store → (g.store.broken ≡ true → HasBroken batch f.store g.store × (g.durable ≡ f.durable))
       → ((view g.store.disk).honest → IsSound (view g.store.disk)) → IsStoredFor view base f → IsStoredFor view base g
   stored_on up made order images under_way sound h =
       let k = images h.honest (h.sound up) in

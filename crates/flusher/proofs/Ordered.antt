@@ -116,5 +116,6 @@ pub station_in_order : (s : Station) (durable : List G) (taken : List Entry) →
 station_in_order s durable taken h = subst (λ l. Sublist (of_station s durable) l) (among_of_station s taken) (station_are_some s durable (commands_among taken) h)
 
 -- and so of those that it sent, once all of these were taken
-pub settled_in_order : (s : Station) (durable : List G) (taken submitted : List Entry) → AreInOrder durable taken → entries_of s taken ≡ submitted → Sublist (of_station s durable) (commands_among submitted)
+pub settled_in_order : (s : Station) (durable : List G) (taken submitted : List Entry) → AreInOrder durable taken → entries_of s taken ≡ submitted →
+    Sublist (of_station s durable) (commands_among submitted)
 settled_in_order s durable taken submitted h is = subst (λ l. Sublist (of_station s durable) (commands_among l)) is (station_in_order s durable taken h)

@@ -1,18 +1,18 @@
 -- The events of a round are the flusher's own.
 use Rattle.std.specs.declared.alloc.Global.{Global}
 use Rattle.std.proofs.Common.{◌≡◌, ℕ, Bool, true, false, List, [], ◌∷◌, ◌++◌, refl}
+use Rattle.base.proofs.Lists.{all_append}
 use Rattle.centre_core.specs.Asked.{Asked}
 use Rattle.schedule.specs.declared.event.Event.{Event}
-use Rattle.schedule.specs.declared.event.Event.TheVariants.{CommitBegin, CommitEnd, CheckpointBegin, CheckpointEnd, Crash}
+use Rattle.schedule.specs.declared.event.Event.TheVariants.{CommitBegin, CheckpointBegin, Crash}
 use Rattle.schedule.specs.Rounds.{Round, answers_to, commit_of, events_of, give_up, left_under_way, move_if, publish_if, room_if, seals, shown_of, stopped_checkpoint, stopped_commit}
-use Rattle.schedule.proofs.Lists.{all-append}
 use Rattle.flusher.specs.Stages.{AreOwn, is_own}
 
 abbrev G : Type 0
 G = Asked Global
 
 pub own_both : (es fs : List (Event Global)) → AreOwn es → AreOwn fs → AreOwn (es ++ fs)
-own_both es fs h k = all-append (λ (e : Event Global). is_own e ≡ true) es fs h k
+own_both es fs h k = all_append (λ (e : Event Global). is_own e ≡ true) es fs h k
 
 own_seals : (cs : List G) → AreOwn (seals cs)
 own_seals [] = tt

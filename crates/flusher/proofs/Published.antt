@@ -34,7 +34,8 @@ pub record Shows (all : Bool) (before kept published durable : List G) : Type 0 
   pub published_is : published ≡ cond all durable before
   pub some : all ≡ false → length before < length durable
 
-pub shows_by : (all : Bool) (before kept was published durable : List G) → was ≡ before → durable ≡ before ++ kept → MatchBool all (published ≡ durable) ((published ≡ was) × (0 < length kept)) → Shows all before kept published durable
+pub shows_by : (all : Bool) (before kept was published durable : List G) → was ≡ before → durable ≡ before ++ kept →
+    MatchBool all (published ≡ durable) ((published ≡ was) × (0 < length kept)) → Shows all before kept published durable
 shows_by true before kept was published durable same is h = record { durable_is = is; published_is = h; some = λ e. absurd (true≢false e) }
 shows_by false before kept was published durable same is h = record {
   durable_is = is;
@@ -53,7 +54,8 @@ shown_begins all before kept published durable h =
 is_whole : (all : Bool) (before kept published durable : List G) → Shows all before kept published durable → all ≡ true → published ≡ durable
 is_whole all before kept published durable h e = h.published_is ∙ ap (λ b. cond b durable before) e
 
-pub borne_by : (base t : State) (before kept published durable cmds : List G) (os : List (Outcome Global)) (all : Bool) → Comes base before cmds t os → kept ≡ accepted_by cmds os → Shows all before kept published durable → BearsOutDecisions base published all cmds os
+pub borne_by : (base t : State) (before kept published durable cmds : List G) (os : List (Outcome Global)) (all : Bool) →
+    Comes base before cmds t os → kept ≡ accepted_by cmds os → Shows all before kept published durable → BearsOutDecisions base published all cmds os
 borne_by base t before kept published durable cmds os all h is w =
     let ts = taken (after base before) (take h.reached cmds) in
     let same : durable ≡ before ++ ts = w.durable_is ∙ ap (λ l. before ++ l) (is ∙ h.accepted) in

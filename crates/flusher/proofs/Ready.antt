@@ -29,7 +29,8 @@ G = Asked Global
 pub all_appended : (appended : List G) (unpublished : List (Arc G Global)) → unpublished ≡ [] → appended ++ commands_in unpublished ≡ appended
 all_appended appended unpublished none = ap (λ l. appended ++ commands_in l) none ∙ append-nil appended
 
-module _ {D : Type 0} (base : State) (old new : StoreView Global D) (log cmds : List G) (os : List (Outcome Global)) (history : IsHistory base log) (made : old.register ≡ after base log) (done : IsDone cmds old new os) where
+module _ {D : Type 0} (base : State) (old new : StoreView Global D) (log cmds : List G) (os : List (Outcome Global)) (history : IsHistory base log)
+    (made : old.register ≡ after base log) (done : IsDone cmds old new os) where
   pub made_on : new.register ≡ after base (log ++ accepted_by cmds os)
   made_on = let h = comes base old.register new.register log cmds os history made done.answered in h.state ∙ ap (λ l. after base (log ++ l)) (sym h.accepted)
 
@@ -44,7 +45,8 @@ begins : (all : Bool) (before durable kept : List G) → durable ≡ before ++ k
 begins true before durable kept is = prefix_self durable
 begins false before durable kept is = (kept, sym is)
 
-pub published_begins : (t : ℕ) (was now : Attempts) (before durable list cmds kept : List G) (os : List (Outcome Global)) (xs ys : List (AnswerSender Sent)) → durable ≡ before ++ kept → HavePublished t was now before durable list cmds os xs ys → IsPrefix list durable
+pub published_begins : (t was now : ℕ) (before durable list cmds kept : List G) (os : List (Outcome Global))
+    (xs ys : List (AnswerSender Sent)) → durable ≡ before ++ kept → HavePublished t was now before durable list cmds os xs ys → IsPrefix list durable
 published_begins t was now before durable list cmds kept os xs ys is h = subst (λ l. IsPrefix l durable) (sym h.published) (begins h.all before durable kept is)
 
 module _ {D : Type 0} (cmds : List G) (old new : StoreView Global D) where

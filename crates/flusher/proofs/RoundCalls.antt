@@ -12,7 +12,7 @@ use Rattle.centre_core.specs.Batches.{taken}
 use Rattle.centre_core.proofs.InTurnLaws.{after-append, history-rest}
 use Rattle.centre_core.proofs.JoinedLaws.{after_taken, taken_history}
 use Rattle.recovery.specs.Outcomes.{IsAfterBatch}
-use Rattle.recovery.specs.Lives.{Closed, Answered, ComesBack, Event, HasAccepted, IsCall, IsLife, Open, Phase, StoreView, Unanswered, answers, disk_of, fails, goes_on, nothing, stopped, stops}
+use Rattle.recovery.specs.Lives.{Closed, Answered, ComesBack, Event, HasAccepted, IsCall, IsLife, Open, StoreView, Unanswered, answers, fails, goes_on, nothing, stopped, stops}
 use Rattle.recovery.proofs.CutShort.{call_parts}
 use Rattle.flusher.specs.Batches.{KeepsImages}
 use Rattle.flusher.specs.Lasting.{AreLasting, no_more, onward}
@@ -33,7 +33,8 @@ G = Asked Global
 module _ {D : Type 0} (view : D → View) (base : State) where
   -- ---- one round
 
-  module _ (f g : FlusherView D) (r : IsRound view base f g) (was : f.store.broken ≡ false → f.store.register ≡ after base f.durable) (order : AreInOrder f.durable f.taker.taken) (now : IsSettled base g) where
+  module _ (f g : FlusherView D) (r : IsRound view base f g) (was : f.store.broken ≡ false → f.store.register ≡ after base f.durable)
+      (order : AreInOrder f.durable f.taker.taken) (now : IsSettled base g) where
     -- the store was broken before
     idle_call : f.store.broken ≡ true → IsSomeCall view base f g
     idle_call down =
@@ -74,7 +75,8 @@ module _ {D : Type 0} (view : D → View) (base : State) where
       more_taken = ap commands_among r.taken.taken ∙ commands_among-append f.taker.taken r.popped
 
       -- the disk failed in the round
-      failed_by : g.store.broken ≡ true → g.durable ≡ f.durable → (g.store.register ≡ f.store.register) ⊎ IsAfterBatch f.store.register (commands_among r.popped) g.store.register → IsSomeCall view base f g
+      failed_by : g.store.broken ≡ true → g.durable ≡ f.durable → (g.store.register ≡ f.store.register) ⊎
+          IsAfterBatch f.store.register (commands_among r.popped) g.store.register → IsSomeCall view base f g
       failed_by down same (inl q) = (
         Unanswered [],
         fails_under_way [] down same (begun view base f g (commands_among r.popped) more_taken [] 0 order same refl) (fails f.store g.store [] (has_accepted [] tt q)),
@@ -99,13 +101,17 @@ module _ {D : Type 0} (view : D → View) (base : State) where
   -- ---- a run
 
   -- rounds after these
-  more_calls : (first f h : FlusherView D) (events : List (Event Global)) → AreCalls view base first events f → (f.store.broken ≡ false → f.store.register ≡ after base f.durable) → AreInOrder f.durable f.taker.taken → AreLasting view base f h → (more : List (Event Global)) × AreCalls view base first more h
+  more_calls : (first f h : FlusherView D) (events : List (Event Global)) → AreCalls view base first events f →
+      (f.store.broken ≡ false → f.store.register ≡ after base f.durable) → AreInOrder f.durable f.taker.taken → AreLasting view base f h →
+      (more : List (Event Global)) × AreCalls view base first more h
   more_calls first f h events calls was order (no_more x) = (events, calls)
   more_calls first f h events calls was order (onward x g y r settled keeps since rest) =
       let c = round_call x g r was order settled x.store.broken refl keeps in
       more_calls first g y (c.0 ∷ events) (one_call events c.0 x g calls r c.1) settled.made settled.order rest
 
-  calls_of : (first last : FlusherView D) → (first.store.broken ≡ false → first.store.register ≡ after base first.durable) → AreInOrder first.durable first.taker.taken → AreLasting view base first last → (events : List (Event Global)) × AreCalls view base first events last
+  calls_of : (first last : FlusherView D) → (first.store.broken ≡ false → first.store.register ≡ after base first.durable) →
+      AreInOrder first.durable first.taker.taken → AreLasting view base first last → (events : List (Event Global)) ×
+      AreCalls view base first events last
   calls_of first last was order lasting = more_calls first first last [] no_call was order lasting
 
   call_of : (f g : FlusherView D) (event : Event Global) → IsRoundCall view base f g event → IsCall Global view (Open f.store) event (Open g.store)
@@ -120,7 +126,8 @@ module _ {D : Type 0} (view : D → View) (base : State) where
 
   -- ---- a stop in it
 
-  module _ (sound : (disk : D) → (view disk).honest → IsSound (view disk)) (from : State) (before : List (Event Global)) (first : FlusherView D) (life : IsLife Global view from before (Open first.store)) where
+  module _ (sound : (disk : D) → (view disk).honest → IsSound (view disk)) (from : State) (before : List (Event Global)) (first : FlusherView D)
+      (life : IsLife Global view from before (Open first.store)) where
     -- a stop at any moment since the first round ends the life's last event
     record Stops (events : List (Event Global)) (last : FlusherView D) : Type 0 where
       later : (view first.store.disk).moment ≤ (view last.store.disk).moment
@@ -134,7 +141,8 @@ module _ {D : Type 0} (view : D → View) (base : State) where
     }
     calls_stop events last (one_call earlier event g h calls r call) =
         let so_far = calls_stop earlier g calls in
-        let p = call_parts view sound from (view first.store.disk).moment (earlier ++ before) (Open g.store) (Open h.store) event (calls_live from before first earlier g calls life) (call_of g h event call) so_far.later in
+        let p = call_parts view sound from (view first.store.disk).moment (earlier ++ before) (Open g.store) (Open h.store) event
+        (calls_live from before first earlier g calls life) (call_of g h event call) so_far.later in
         record {
           later = p.later;
           each = λ image disk left is. elim (p.divides image disk left is) [

@@ -1,6 +1,7 @@
 -- Rounds, one after another.
 use Rattle.std.proofs.Common.{◌≡◌, ◌⊎◌, inl, inr, ℕ, zero, suc, ◌+◌, ◌-◌, ◌<◌, ◌≤◌, true, List, [], ◌∷◌, length, refl, sym, ◌∙◌, arith}
 use Rattle.std.specs.Prelude.{◌^◌, All, IsTrue, Some, slice_get, slice_index_or}
+use Rattle.base.proofs.Lists.{get_within as within}
 use Rattle.sector_disk.specs.Disk.{View}
 use Rattle.crossbeam_channel.specs.Ends.{sends_on}
 use Rattle.centre_core.specs.State.{State}
@@ -16,12 +17,6 @@ pub item_at : {X : Type 0} (xs : List X) (k : ℕ) (d : X) → k < length xs →
 item_at [] k d lt = absurd (omega arith)
 item_at (x ∷ xs) zero d lt = refl
 item_at (x ∷ xs) (suc k) d lt = item_at xs k d (omega arith)
-
--- a place with an item is within the list
-pub within : {X : Type 0} (xs : List X) (k : ℕ) (x : X) → slice_get xs k ≡ Some x → k < length xs
-within [] k x e = absurd cc
-within (y ∷ xs) zero x e = omega arith
-within (y ∷ xs) (suc k) x e = let lt = within xs k x e in omega (arith, lt)
 
 module _ {D : Type 0} where
   -- rounds, and one more

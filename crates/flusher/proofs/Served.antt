@@ -19,7 +19,7 @@ use Rattle.flusher.specs.declared.decision.Decision.{Decision}
 use Rattle.flusher.specs.declared.decision.Decision.TheVariants as decision
 use Rattle.flusher.specs.Stages.{Sent, Stage, stage, HasRun, commands_of, decision_for_all, entries_of, entry_of, sent_by, sent_to_all}
 use Rattle.flusher.specs.Answerings.{HaveAnswered}
-use Rattle.flusher.specs.Attempts.{Tries, WasOutOfMemory}
+use Rattle.flusher.specs.Attempts.{HasBeenRefused, Tries}
 use Rattle.flusher.specs.Batches.{HasRecorded, IsDone, IsRefusedBy, accepted_by}
 use Rattle.flusher.specs.Served.{AreServedBy, HasServed, HavePublished, IsReason, decision_by}
 use Rattle.flusher.specs.View.{progress, stage_of}
@@ -72,7 +72,9 @@ module _ {D : Type 0} where
   -- ---- a batch that was committed
 
   pub served_on : (base : State) (t : ℕ) (old new : StoreView Global D) (r r' : Tries) (seen log durable list cmds : List G) (os : List (Outcome Global)) (xs ys : List (AnswerSender Sent))
-      → IsHistory base log → old.register ≡ after base log → old.broken ≡ false → length cmds ≤ 64 → IsDone cmds old new os → HasRecorded cmds old new → durable ≡ log ++ accepted_by cmds os → HavePublished t r.publications r'.publications log durable list cmds os xs ys
+      → IsHistory base log → old.register ≡ after base log → old.broken ≡ false → length cmds ≤ 64 → IsDone cmds old new os →
+      HasRecorded cmds old new → durable ≡ log ++ accepted_by cmds os → HavePublished t r.publications r'.publications log durable list cmds os xs
+      ys
       → HasServed base t (progress seen log old r) (progress list durable new r') cmds xs ys
   served_on base t old new r r' seen log durable list cmds os xs ys history made up small done recorded is shown =
       let h = comes base old.register new.register log cmds os history made done.answered in
@@ -106,15 +108,19 @@ module _ {D : Type 0} where
 
   -- ---- a commit that was refused
 
-  idle_run : (base : State) (old new : StoreView Global D) (r r' : Tries) (made_room : Bool) (seen log cmds : List G) (answers : List Sent) → old.broken ≡ false → new.broken ≡ false → entries_of answers ≡ []
+  idle_run : (base : State) (old new : StoreView Global D) (r r' : Tries) (made_room : Bool) (seen log cmds : List G) (answers : List Sent) →
+      old.broken ≡ false → new.broken ≡ false → entries_of answers ≡ []
       → HasRun base (stage_of (progress seen log old r)) (stage_of (progress log log new r')) cmds answers
   idle_run base old new r r' made_room seen log cmds answers up sound none =
-      by_stages base _ _ _ _ cmds answers (sound_stage seen log old r up) (sound_stage log log new r' sound) (only_published base seen log cmds made_room (is_some old.ongoing) (is_some new.ongoing) answers none)
+      by_stages base _ _ _ _ cmds answers (sound_stage seen log old r up) (sound_stage log log new r' sound)
+      (only_published base seen log cmds made_room (is_some old.ongoing) (is_some new.ongoing) answers none)
 
-  run_by : (base : State) (old new : StoreView Global D) (r r' : Tries) (seen log cmds : List G) (f : StoreFault) (answers : List Sent) → old.broken ≡ false → length cmds ≤ 64 → IsRefusedBy cmds old new f r.commits r'.commits → entries_of answers ≡ []
+  run_by : (base : State) (old new : StoreView Global D) (r r' : Tries) (seen log cmds : List G) (f : StoreFault) (answers : List Sent) →
+      old.broken ≡ false → length cmds ≤ 64 → IsRefusedBy cmds old new f r.commits r'.commits → entries_of answers ≡ []
       → HasRun base (stage_of (progress seen log old r)) (stage_of (progress log log new r')) cmds answers
   run_by base old new r r' seen log cmds DiskFault answers up small h none =
-      by_stages base _ _ _ _ cmds answers (sound_stage seen log old r up) (broken_stage log log new r' h.broken) (stopped base seen log cmds h.in_checkpoint false (is_some old.ongoing) answers h.some small none)
+      by_stages base _ _ _ _ cmds answers (sound_stage seen log old r up) (broken_stage log log new r' h.broken)
+      (stopped base seen log cmds h.in_checkpoint false (is_some old.ongoing) answers h.some small none)
   run_by base old new r r' seen log cmds NoMemory answers up small h none = idle_run base old new r r' h.2.made_room seen log cmds answers up h.0.sound none
   run_by base old new r r' seen log cmds EpochsUsedUp answers up small h none =
       idle_run base old new r r' false seen log cmds answers up (ap (λ (s : StoreView Global D). s.broken) h.0 ∙ up) none
@@ -124,7 +130,8 @@ module _ {D : Type 0} where
   run_by base old new r r' seen log cmds BadGeometry answers up small h none = absurd h
   run_by base old new r r' seen log cmds (Damaged at) answers up small h none = absurd h
 
-  reason_by : (base : State) (t : ℕ) (old new : StoreView Global D) (r r' : Tries) (seen log cmds : List G) (f : StoreFault) (answers : List Sent) → old.broken ≡ false → IsRefusedBy cmds old new f r.commits r'.commits
+  reason_by : (base : State) (t : ℕ) (old new : StoreView Global D) (r r' : Tries) (seen log cmds : List G) (f : StoreFault) (answers : List Sent) →
+      old.broken ≡ false → IsRefusedBy cmds old new f r.commits r'.commits
       → IsReason base t (progress seen log old r) (progress log log new r') cmds answers f
   reason_by base t old new r r' seen log cmds DiskFault answers up h = h
   reason_by base t old new r r' seen log cmds NoMemory answers up h = (h.1, h.0.sound, h.2)
@@ -135,7 +142,8 @@ module _ {D : Type 0} where
   reason_by base t old new r r' seen log cmds BadGeometry answers up h = absurd h
   reason_by base t old new r r' seen log cmds (Damaged at) answers up h = absurd h
 
-  refused_at : (base : State) (t : ℕ) (old new : StoreView Global D) (r r' : Tries) (seen log cmds : List G) (f : StoreFault) (xs ys : List (AnswerSender Sent)) → old.broken ≡ false → length cmds ≤ 64 → IsRefusedBy cmds old new f r.commits r'.commits
+  refused_at : (base : State) (t : ℕ) (old new : StoreView Global D) (r r' : Tries) (seen log cmds : List G) (f : StoreFault)
+      (xs ys : List (AnswerSender Sent)) → old.broken ≡ false → length cmds ≤ 64 → IsRefusedBy cmds old new f r.commits r'.commits
       → HaveAnswered xs (sent_to_all t log (decision_by f) cmds) ys → HasServed base t (progress seen log old r) (progress log log new r') cmds xs ys
   refused_at base t old new r r' seen log cmds f xs ys up small h sent =
       let answers = sent_to_all t log (decision_by f) cmds in
@@ -153,7 +161,8 @@ module _ {D : Type 0} where
         })));
       }
 
-  pub served_not : (base : State) (t : ℕ) (old new : StoreView Global D) (r r' : Tries) (seen log durable list cmds : List G) (f : StoreFault) (xs ys : List (AnswerSender Sent)) → old.broken ≡ false → length cmds ≤ 64 → IsRefusedBy cmds old new f r.commits r'.commits
+  pub served_not : (base : State) (t : ℕ) (old new : StoreView Global D) (r r' : Tries) (seen log durable list cmds : List G) (f : StoreFault)
+      (xs ys : List (AnswerSender Sent)) → old.broken ≡ false → length cmds ≤ 64 → IsRefusedBy cmds old new f r.commits r'.commits
       → list ≡ log → durable ≡ log → HaveAnswered xs (sent_to_all t list (decision_by f) cmds) ys → HasServed base t (progress seen log old r) (progress list durable new r') cmds xs ys
   served_not base t old new r r' seen log durable list cmds f xs ys up small h level same sent =
       subst (λ (q : List G × List G). HasServed base t (progress seen log old r) (progress q.0 q.1 new r') cmds xs ys) (λ j. (sym level j, sym same j))
@@ -161,7 +170,9 @@ module _ {D : Type 0} where
 
   -- ---- a round that commits nothing
 
-  after_at : (base : State) (t : ℕ) (store : StoreView Global D) (r r' : Tries) (list durable cmds : List G) (xs ys : List (AnswerSender Sent)) → store.broken ≡ false → length list < length durable → WasOutOfMemory r.publications r'.publications → HaveAnswered xs (sent_to_all t list decision.NoMemory cmds) ys
+  after_at : (base : State) (t : ℕ) (store : StoreView Global D) (r r' : Tries) (list durable cmds : List G) (xs ys : List (AnswerSender Sent)) →
+      store.broken ≡ false → length list < length durable → HasBeenRefused r.publications r'.publications →
+      HaveAnswered xs (sent_to_all t list decision.NoMemory cmds) ys
       → HasServed base t (progress list durable store r) (progress list durable store r') cmds xs ys
   after_at base t store r r' list durable cmds xs ys up fewer refused sent =
       let answers = sent_to_all t list decision.NoMemory cmds in
@@ -170,10 +181,12 @@ module _ {D : Type 0} where
         asked = commands_alike t list decision.NoMemory cmds;
         answered = sent;
         run = rested base (stage_of (progress list durable store r)) cmds answers (no_replies t list decision.NoMemory (λ c. refl) cmds);
-        served = subst (λ b. AreServedBy base t (progress list durable store r) (progress list durable store r') cmds answers b) (sym up) (inr (inr (record { fewer = fewer; refused = refused; durable = refl; published = refl; store = refl; each = refl })));
+        served = subst (λ b. AreServedBy base t (progress list durable store r) (progress list durable store r') cmds answers b) (sym up)
+            (inr (inr (record { fewer = fewer; refused = refused; durable = refl; published = refl; store = refl; each = refl })));
       }
 
-  broken_at : (base : State) (t : ℕ) (store : StoreView Global D) (r r' : Tries) (list durable cmds : List G) (xs ys : List (AnswerSender Sent)) → store.broken ≡ true → HaveAnswered xs (sent_to_all t list (decision.Fault Broken) cmds) ys
+  broken_at : (base : State) (t : ℕ) (store : StoreView Global D) (r r' : Tries) (list durable cmds : List G) (xs ys : List (AnswerSender Sent)) →
+      store.broken ≡ true → HaveAnswered xs (sent_to_all t list (decision.Fault Broken) cmds) ys
       → HasServed base t (progress list durable store r) (progress list durable store r') cmds xs ys
   broken_at base t store r r' list durable cmds xs ys down sent =
       let answers = sent_to_all t list (decision.Fault Broken) cmds in
@@ -182,26 +195,33 @@ module _ {D : Type 0} where
         asked = commands_alike t list (decision.Fault Broken) cmds;
         answered = sent;
         run = rested base (stage_of (progress list durable store r)) cmds answers (no_replies t list (decision.Fault Broken) (λ c. refl) cmds);
-        served = subst (λ b. AreServedBy base t (progress list durable store r) (progress list durable store r') cmds answers b) (sym down) (record { durable = refl; published = refl; store = refl; each = refl });
+        served = subst (λ b. AreServedBy base t (progress list durable store r) (progress list durable store r') cmds answers b) (sym down)
+            (record { durable = refl; published = refl; store = refl; each = refl });
       }
 
-  pub served_after : (base : State) (t : ℕ) (store : StoreView Global D) (r r' : Tries) (list durable list' durable' cmds : List G) (xs ys : List (AnswerSender Sent)) → store.broken ≡ false → IsPrefix list durable → (list ≡ durable → ⊥) → WasOutOfMemory r.publications r'.publications → list' ≡ list → durable' ≡ durable
+  pub served_after : (base : State) (t : ℕ) (store : StoreView Global D) (r r' : Tries) (list durable list' durable' cmds : List G)
+      (xs ys : List (AnswerSender Sent)) → store.broken ≡ false → IsPrefix list durable → (list ≡ durable → ⊥) →
+      HasBeenRefused r.publications r'.publications → list' ≡ list → durable' ≡ durable
       → HaveAnswered xs (sent_to_all t list' decision.NoMemory cmds) ys → HasServed base t (progress list durable store r) (progress list' durable' store r') cmds xs ys
   served_after base t store r r' list durable list' durable' cmds xs ys up pre other refused same same' sent =
       subst (λ (q : List G × List G). HasServed base t (progress list durable store r) (progress q.0 q.1 store r') cmds xs ys) (λ j. (sym same j, sym same' j))
       (after_at base t store r r' list durable cmds xs ys up (fewer_by list durable pre other) refused (subst (λ l. HaveAnswered xs (sent_to_all t l decision.NoMemory cmds) ys) same sent))
 
-  pub served_broken : (base : State) (t : ℕ) (store : StoreView Global D) (r r' : Tries) (list durable list' durable' cmds : List G) (xs ys : List (AnswerSender Sent)) → store.broken ≡ true → list' ≡ list → durable' ≡ durable
+  pub served_broken : (base : State) (t : ℕ) (store : StoreView Global D) (r r' : Tries) (list durable list' durable' cmds : List G)
+      (xs ys : List (AnswerSender Sent)) → store.broken ≡ true → list' ≡ list → durable' ≡ durable
       → HaveAnswered xs (sent_to_all t list' (decision.Fault Broken) cmds) ys → HasServed base t (progress list durable store r) (progress list' durable' store r') cmds xs ys
   served_broken base t store r r' list durable list' durable' cmds xs ys down same same' sent =
       subst (λ (q : List G × List G). HasServed base t (progress list durable store r) (progress q.0 q.1 store r') cmds xs ys) (λ j. (sym same j, sym same' j))
       (broken_at base t store r r' list durable cmds xs ys down (subst (λ l. HaveAnswered xs (sent_to_all t l (decision.Fault Broken) cmds) ys) same sent))
 
   -- whether the disk is sound says why
-  pub served_idle : (base : State) (t : ℕ) (store : StoreView Global D) (r r' : Tries) (list durable list' durable' cmds : List G) (xs ys : List (AnswerSender Sent)) (sound : Bool) (fault : Option StoreFault)
-      → MatchBool sound (store.broken ≡ false) (store.broken ≡ true) → MatchBool sound (fault ≡ None) (fault ≡ Some Broken) → IsPrefix list durable → (sound ≡ true → list ≡ durable → ⊥) → (sound ≡ true → WasOutOfMemory r.publications r'.publications) → list' ≡ list → durable' ≡ durable
+  pub served_idle : (base : State) (t : ℕ) (store : StoreView Global D) (r r' : Tries) (list durable list' durable' cmds : List G)
+      (xs ys : List (AnswerSender Sent)) (sound : Bool) (fault : Option StoreFault)
+      → MatchBool sound (store.broken ≡ false) (store.broken ≡ true) → MatchBool sound (fault ≡ None) (fault ≡ Some Broken) → IsPrefix list durable →
+      (sound ≡ true → list ≡ durable → ⊥) → (sound ≡ true → HasBeenRefused r.publications r'.publications) → list' ≡ list → durable' ≡ durable
       → HaveAnswered xs (sent_to_all t list' (decision_for_all fault) cmds) ys → HasServed base t (progress list durable store r) (progress list' durable' store r') cmds xs ys
   served_idle base t store r r' list durable list' durable' cmds xs ys true fault up is pre other refused same same' sent =
-      served_after base t store r r' list durable list' durable' cmds xs ys up pre (other refl) (refused refl) same same' (subst (λ f. HaveAnswered xs (sent_to_all t list' (decision_for_all f) cmds) ys) is sent)
+      served_after base t store r r' list durable list' durable' cmds xs ys up pre (other refl) (refused refl) same same'
+      (subst (λ f. HaveAnswered xs (sent_to_all t list' (decision_for_all f) cmds) ys) is sent)
   served_idle base t store r r' list durable list' durable' cmds xs ys false fault down is pre other refused same same' sent =
       served_broken base t store r r' list durable list' durable' cmds xs ys down same same' (subst (λ f. HaveAnswered xs (sent_to_all t list' (decision_for_all f) cmds) ys) is sent)

@@ -1,8 +1,12 @@
 -- Each session stays that of its station, from the opening of its centre to its end.
 use Rattle.std.specs.Prelude.{Some, slice_get}
 use Rattle.std.specs.List.{AllZip}
-use Rattle.std.proofs.Common.{◌≡◌, ℕ, zero, suc, ◌<◌, List, [], ◌∷◌, length, refl, ap, sym, ◌∙◌, subst, arith}
+use Rattle.std.proofs.Common.{◌≡◌, ℕ, zero, suc, List, [], ◌∷◌, length, refl, ap, sym, ◌∙◌, subst}
+use Rattle.base.proofs.Options.{some_is}
+use Rattle.base.proofs.Lists.{some_beside, zip_length}
 use Rattle.station_queue.specs.Ends.{Sending}
+use Rattle.crossbeam_channel.specs.Ends.{receives_on}
+use Rattle.answers.specs.declared.channel.AnswerReceiver.{AnswerReceiver}
 use Rattle.answers.specs.declared.channel.AnswerSender.{AnswerSender}
 use Rattle.flusher.specs.declared.session.Ended.{Ended}
 use Rattle.flusher.specs.declared.session.Session.{Session}
@@ -10,35 +14,36 @@ use Rattle.flusher.specs.Stages.{Sent}
 use Rattle.flusher.specs.View.{FlusherView}
 use Rattle.flusher.specs.Runs.{HasSameEnds}
 use Rattle.flusher.specs.Opened.{AreNewSessions}
-use Rattle.flusher.specs.Sessions.{IsSameSession}
+use Rattle.flusher.specs.Sessions.{HasOnlyRead, IsSameSession}
 use Rattle.flusher.specs.Closed.{AreOpenSessionsOf, AreSessionsOf, HasFinished, IsOpenSessionOf, IsSessionOf}
-use Rattle.flusher.proofs.Runs.{within}
-
--- a place within the list has an item
-some_within : {X : Type 0} (xs : List X) (k : ℕ) → k < length xs → (x : X) × (slice_get xs k ≡ Some x)
-some_within [] k lt = absurd (omega arith)
-some_within (x ∷ xs) zero lt = (x, refl)
-some_within (x ∷ xs) (suc k) lt = some_within xs k (omega arith)
-
--- two lists of the same length have an item at the same places
-some_beside : {X Y : Type 0} (xs : List X) (ys : List Y) (k : ℕ) (y : Y) → length ys ≡ length xs → slice_get ys k ≡ Some y → (x : X) × (slice_get xs k ≡ Some x)
-some_beside xs ys k y same at = let lt = within ys k y at in some_within xs k (omega (arith, lt, same))
-
-zip_length : {X Y : Type 0} (R : X → Y → Type 0) (xs : List X) (ys : List Y) → AllZip R xs ys → length ys ≡ length xs
-zip_length R [] [] all = refl
-zip_length R [] (y ∷ ys) all = absurd all
-zip_length R (x ∷ xs) [] all = absurd all
-zip_length R (x ∷ xs) (y ∷ ys) all = ap suc (zip_length R xs ys all.1)
 
 zip_at : {X Y : Type 0} (R : X → Y → Type 0) (xs : List X) (ys : List Y) → AllZip R xs ys → (k : ℕ) (x : X) (y : Y) → slice_get xs k ≡ Some x → slice_get ys k ≡ Some y → R x y
 zip_at R [] [] all k x y here there = absurd cc
 zip_at R [] (b ∷ ys) all k x y here there = absurd all
 zip_at R (a ∷ xs) [] all k x y here there = absurd all
-zip_at {X} {Y} R (a ∷ xs) (b ∷ ys) all zero x y here there = subst (λ (q : X × Y). R q.0 q.1) (λ i. (one a x here i, one b y there i)) all.0
-  where
-    one : {Z : Type 0} (p q : Z) → Some p ≡ Some q → p ≡ q
-    one p q e = cc
+zip_at {X} {Y} R (a ∷ xs) (b ∷ ys) all zero x y here there = subst (λ (q : X × Y). R q.0 q.1) (λ i. (some_is a x here i, some_is b y there i)) all.0
 zip_at R (a ∷ xs) (b ∷ ys) all (suc k) x y here there = zip_at R xs ys all.1 k x y here there
+
+module _ {J : Type 0} where
+  pub same_self : (s : Session J) → IsSameSession s s
+  same_self s = record { queue = refl; station = refl; channel = refl; share = refl }
+
+  pub same_on : (s t u : Session J) → IsSameSession s t → IsSameSession t u → IsSameSession s u
+  same_on s t u first second = record {
+    queue = second.queue ∙ first.queue;
+    station = second.station ∙ first.station;
+    channel = second.channel ∙ first.channel;
+    share = second.share ∙ first.share;
+  }
+
+  -- what only reads keeps the session as it is
+  pub read_same : (s t : Session J) → HasOnlyRead s t → IsSameSession s t
+  read_same s t read = record {
+    queue = ap (λ (x : Sending). x.queue) read.sender;
+    station = ap (λ (x : Sending). x.station) read.sender;
+    channel = ap (λ (r : AnswerReceiver Sent). receives_on r.channel) read.receiver;
+    share = read.share;
+  }
 
 module _ {J D : Type 0} (f : FlusherView D) where
   -- those of a centre that was opened
@@ -52,9 +57,11 @@ module _ {J D : Type 0} (f : FlusherView D) where
 
   -- what they did kept each the session of its station
   pub same_session : (k : ℕ) (a : AnswerSender Sent) (s t : Session J) → IsSameSession s t → IsOpenSessionOf f k a s → IsOpenSessionOf f k a t
-  same_session k a s t same is = record { queue = same.0 ∙ is.queue; station = same.1 ∙ is.station; channel = same.2 ∙ is.channel }
+  same_session k a s t same is = record { queue = same.queue ∙ is.queue; station = same.station ∙ is.station; channel = same.channel ∙ is.channel }
 
-  pub same_sessions : (old new : List (Session J)) → length new ≡ length old → ((k : ℕ) (s t : Session J) → slice_get old k ≡ Some s → slice_get new k ≡ Some t → IsSameSession s t) → AreOpenSessionsOf f old → AreOpenSessionsOf f new
+  pub same_sessions : (old new : List (Session J)) → length new ≡ length old →
+      ((k : ℕ) (s t : Session J) → slice_get old k ≡ Some s → slice_get new k ≡ Some t → IsSameSession s t) → AreOpenSessionsOf f old →
+      AreOpenSessionsOf f new
   same_sessions old new count same are = record {
     count = count ∙ are.count;
     each = λ k a t here there.
@@ -77,16 +84,6 @@ module _ {J D : Type 0} (f : FlusherView D) where
       }
 
 module _ {J D : Type 0} (f g : FlusherView D) (same : HasSameEnds f g) where
-  -- the flusher's rounds kept its queue and its channels
-  pub still_open : (sessions : List (Session J)) → AreOpenSessionsOf f sessions → AreOpenSessionsOf g sessions
-  still_open sessions are = record {
-    count = are.count ∙ sym same.count;
-    each = λ k b s here there.
-        let a = some_beside f.senders g.senders k b same.count here in
-        let is = are.each k a.0 s a.1 there in
-        record { queue = is.queue ∙ sym same.queue; station = is.station; channel = is.channel ∙ sym (same.channels k a.0 b a.1 here) };
-  }
-
   -- so after their ends
   pub still_sessions : (ended : List (Ended J)) → AreSessionsOf f ended → AreSessionsOf g ended
   still_sessions ended are = record {

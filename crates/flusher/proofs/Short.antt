@@ -50,7 +50,8 @@ outcomes_short : (s t : State) (cs : List G) (os : List (Outcome Global)) → St
 outcomes_short s t cs os is are h =
     subst AreShort (sym h.outcomes_are) (replies_short s (take h.applied cs) (drop h.applied cs) (length cs - h.applied) is (subst (AllByRecursion InRange) (sym (take-append-drop h.applied cs)) are))
 
-pub commit_short : (s t : State) (cs : List G) (r : Result (Vec (Outcome Global) Global) StoreFault) → StateInRange s → AllByRecursion InRange cs → IfOk r (λ o. IsAnswered s cs t o.items) → IfOk r (λ o. AreShort o.items)
+pub commit_short : (s t : State) (cs : List G) (r : Result (Vec (Outcome Global) Global) StoreFault) → StateInRange s → AllByRecursion InRange cs →
+    IfOk r (λ o. IsAnswered s cs t o.items) → IfOk r (λ o. AreShort o.items)
 commit_short s t cs (Ok o) is are h = outcomes_short s t cs o.items is are h
 commit_short s t cs (Err e) is are h = tt
 

@@ -5,6 +5,7 @@ use Rattle.std.specs.declared.alloc.Global.{Global}
 use Rattle.std.proofs.Common.{◌≡◌, ◌⊎◌, ℕ, ◌+◌, ◌≤◌, inl, inr, Bool, true, false, cond, List, [], ◌∷◌, ◌++◌, length, take, drop, refl, ap, sym, ◌∙◌, subst}
 use Rattle.std.proofs.lemmas.List.{take-append-drop, take-append-le}
 use mathlib.Core.List.{IsPrefix}
+use Rattle.base.proofs.Lists.{some_beside}
 use Rattle.sector_disk.specs.Disk.{View}
 use Rattle.sector_disk.specs.Run.{LeavesOnly}
 use Rattle.centre_core.specs.Asked.{Asked}
@@ -27,7 +28,7 @@ use Rattle.flusher.specs.Since.{IsKeptSince, WasDurable}
 use Rattle.flusher.specs.Stored.{OpensBetween}
 use Rattle.flusher.specs.View.{FlusherView, Progress, progress_of}
 use Rattle.flusher.proofs.Between.{rounds_longer}
-use Rattle.flusher.proofs.Borne.{sent_first, some_at}
+use Rattle.flusher.proofs.Borne.{sent_first}
 use Rattle.flusher.proofs.Lasting.{rounds_of}
 
 abbrev G : Type 0
@@ -110,7 +111,8 @@ module _ {D : Type 0} (view : D → View) (base : State) where
         )
 
     -- each answer was, or was sent at that moment
-    each_durable : (low : ℕ) (xs : List Sent) → AreBorneOut base g.durable low xs → AllByRecursion (λ x. WasDurable view base h x ⊎ (x.moment ≡ (view g.store.disk).moment)) xs → AllByRecursion (WasDurable view base h) xs
+    each_durable : (low : ℕ) (xs : List Sent) → AreBorneOut base g.durable low xs →
+        AllByRecursion (λ x. WasDurable view base h x ⊎ (x.moment ≡ (view g.store.disk).moment)) xs → AllByRecursion (WasDurable view base h) xs
     each_durable low [] borne each = tt
     each_durable low (x ∷ xs) borne each = (
       elim each.0 [ inl was ↦ was | inr at ↦ one_durable x borne.0 borne.2 borne.3 at ],
@@ -126,7 +128,7 @@ module _ {D : Type 0} (view : D → View) (base : State) where
   round_durable f g h r settled longer leaves each k b there =
       let t = (view g.store.disk).moment in
       let answers = r.served.answers in
-      let was = some_at f.senders g.senders k b r.served.answered.count there in
+      let was = some_beside f.senders g.senders k b r.served.answered.count there in
       let a = was.0 in
       let mine : List Sent = answers_to (k + 1) answers in
       let Either : Sent → Type 0 = λ x. WasDurable view base h x ⊎ (x.moment ≡ t) in

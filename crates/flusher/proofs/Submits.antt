@@ -1,18 +1,18 @@
 -- How commands come into the core: each is submitted by its station.
 use Rattle.std.specs.Prelude.{◌==◌, get_or, nat_le, nat_lt, not, replicate, set}
 use Rattle.std.specs.declared.alloc.Global.{Global}
-use Rattle.std.proofs.Common.{◌≡◌, ℕ, zero, suc, ◌+◌, ◌<◌, ◌≤◌, Bool, true, false, cond, ◌&&◌, List, [], ◌∷◌, ◌++◌, length, take, refl, ap, sym, ◌∙◌, subst, arith, append_assoc}
-use Rattle.std.proofs.lemmas.Bool.Decides.{nat_tests}
+use Rattle.std.proofs.Common.{◌≡◌, ℕ, zero, suc, ◌<◌, ◌≤◌, true, false, ◌&&◌, List, [], ◌∷◌, ◌++◌, length, take, refl, ap, sym, ◌∙◌, subst, append_assoc}
 use Rattle.std.proofs.lemmas.List.{append-nil}
 use Rattle.std.specs.List.{AllByRecursion}
+use Rattle.base.proofs.Bools.{and_is_true}
+use Rattle.base.proofs.Numbers.{same_test, test_by_less, test_by_le}
 use Rattle.centre_core.specs.Asked.{Asked}
 use Rattle.centre_core.specs.State.{State}
 use Rattle.schedule.specs.declared.event.Event.{Event}
 use Rattle.schedule.specs.declared.event.Event.TheVariants.{Submit}
 use Rattle.schedule.specs.World.{World, Line, line, line_of, with_line}
-use Rattle.schedule.specs.Next.{Run, emptied, is_place}
+use Rattle.schedule.specs.Next.{Run, emptied}
 use Rattle.schedule.specs.Rounds.{AreOf, at, fed, queues, with_first}
-use Rattle.schedule.proofs.Lists.{and_both}
 use Rattle.schedule.proofs.Rounding.{length-fed}
 use Rattle.station_queue.specs.declared.entry.Entry.{Entry}
 use Rattle.station_queue.specs.declared.entry.Entry.TheVariants.{Submitted, Ended}
@@ -100,19 +100,16 @@ fed_last n [] c xs quiet =
     ap (λ (q : List G). with_line xs c.station (line (c ∷ q) old.seen)) none ∙ sym (ap (λ (q : List G). with_line xs c.station (line (q ++ c ∷ []) old.seen)) none)
 fed_last n (p ∷ ps) c xs quiet = ap (put_first p.station p) (fed_last n ps c xs quiet) ∙ turned (fed ps xs) c.station p.station c p
 
-same_count : (n : ℕ) → (n == n) ≡ true
-same_count n = grind (arith, nat_tests)
-
 -- commands are submitted in order after those that wait
 submitted_after : (base : State) (f : World Global) (n : ℕ) (ps qs : List G) (xs : List L) → f.down ≡ false → AreQuiet n xs → AreOf xs qs
     → Run base (at f (fed ps xs)) (submits qs) (at f (fed (ps ++ qs) xs))
 submitted_after base f n ps [] xs up quiet are = ap (λ l. at f (fed l xs)) (append-nil ps)
 submitted_after base f n ps (c ∷ cs) xs up quiet are =
     let here : (nat_lt 0 c.station && nat_le c.station (length (fed ps xs))) ≡ true = ap (λ m. nat_lt 0 c.station && nat_le c.station m) (length-fed ps xs) ∙ are.0 in
-    let own : (not f.down && (c.station == c.station)) ≡ true = and_both _ _ (ap (λ b. not b) up) (same_count c.station) in
+    let own : (not f.down && (c.station == c.station)) ≡ true = and_is_true _ _ (ap (λ b. not b) up) (same_test c.station) in
     let rest = submitted_after base f n (ps ++ c ∷ []) cs xs up quiet are.1 in (
       at f (fed (ps ++ c ∷ []) xs),
-      (and_both _ _ here own, ap (λ l. at f l) (fed_last n ps c xs quiet)),
+      (and_is_true _ _ here own, ap (λ l. at f l) (fed_last n ps c xs quiet)),
       subst (λ l. Run base (at f (fed (ps ++ c ∷ []) xs)) (submits cs) (at f (fed l xs))) (append_assoc ps (c ∷ []) cs) rest,
     )
 
@@ -123,13 +120,7 @@ submits_run base f n qs xs up quiet are = submitted_after base f n [] qs xs up q
 -- ---- the commands of entries that were taken
 
 place_test : (s n : ℕ) → 0 < s → s ≤ n → (nat_lt 0 s && nat_le s n) ≡ true
-place_test s n some most = and_both _ _ (less 0 s some) (least s n most)
-  where
-    less : (a b : ℕ) → a < b → nat_lt a b ≡ true
-    less a b h = grind (arith, nat_tests)
-
-    least : (a b : ℕ) → a ≤ b → nat_le a b ≡ true
-    least a b h = grind (arith, nat_tests)
+place_test s n some most = and_is_true _ _ (test_by_less 0 s some) (test_by_le s n most)
 
 -- they are of the stations of the entries
 pub of_the_stations : (n : ℕ) (xs : List L) (popped : List Entry) → AreQuiet n xs → AllByRecursion (λ (x : Entry). (0 < station_of x) × (station_of x ≤ n)) popped → AreOf xs (commands_among popped)

@@ -1,5 +1,5 @@
 -- What a session puts into the queue: commands, and its end as the last.
-use Rattle.std.proofs.Common.{◌≡◌, true, List, [], ◌∷◌, ◌++◌, refl, subst, sym, true≢false}
+use Rattle.std.proofs.Common.{◌≡◌, ◌+◌, true, List, [], ◌∷◌, ◌++◌, length, refl, ap, subst, sym, true≢false, arith, length-append}
 use Rattle.std.specs.declared.alloc.Global.{Global}
 use Rattle.registration.specs.Numbers.{Station}
 use Rattle.centre_core.specs.Asked.{Asked}
@@ -20,6 +20,11 @@ pub more_submitted : (cs : List (Asked Global)) (old new : List Entry) → ArePu
 more_submitted [] old new p h = subst (λ l. are_submitted l ≡ true) (sym p) h
 more_submitted (c ∷ cs) old new p h =
     more_submitted cs p.0 new p.2 (subst (λ l. are_submitted l ≡ true) (sym p.1.2) (one_more_submitted old p.1.0 h))
+
+-- so many entries more
+pub put_count : (cs : List (Asked Global)) (old new : List Entry) → ArePut cs old new → length new ≡ length old + length cs
+put_count [] old new p = omega (arith, ap length p)
+put_count (c ∷ cs) old new p = omega (arith, ap length p.1.2, length-append old (Submitted p.1.0 ∷ []), put_count cs p.0 new p.2)
 
 -- the end after the commands
 pub then_ended : (xs : List Entry) (s : Station) → are_submitted xs ≡ true → is_ended (xs ++ Ended s ∷ []) ≡ true

@@ -1,7 +1,6 @@
 -- Commands that are submitted together.
-use Rattle.std.proofs.Common.{◌≡◌, inl, inr, ℕ, suc, ◌+◌, ◌<◌, ◌≤◌, List, [], ◌∷◌, ◌++◌, get_or, length, take, refl, ap, sym, ◌∙◌, subst, arith}
+use Rattle.std.proofs.Common.{◌≡◌, inl, inr, ℕ, ◌≤◌, List, [], ◌∷◌, ◌++◌, drop, length, refl, sym, subst, arith}
 use Rattle.std.specs.Prelude.{replicate}
-use Rattle.std.proofs.Math.Seq.{take-suc}
 use Rattle.std.specs.declared.alloc.Global.{Global}
 use mathlib.Core.List.{IsPrefix}
 use Rattle.snapshots.proofs.Prefixes.{prefix_self, prefix_trans}
@@ -17,11 +16,10 @@ use Rattle.flusher.specs.Submitted.{AreSubmissions, IsPut, IsSubmission, IsWithi
 abbrev G : Type 0
 G = Asked Global
 
--- the first so many, and the next one
-pub take_one : {X : Type 0} (xs : List X) (k : ℕ) (x : X) → k < length xs → x ≡ get_or xs k x → take (k + 1) xs ≡ take k xs ++ x ∷ []
-take_one xs k x lt is =
-    let next : k + 1 ≡ suc k = omega arith in
-    ap (λ n. take n xs) next ∙ take-suc xs k x lt ∙ ap (λ z. take k xs ++ z ∷ []) (sym is)
+-- what comes after the first items
+pub drop_first : {X : Type 0} (xs ys : List X) → drop (length xs) (xs ++ ys) ≡ ys
+drop_first [] ys = refl
+drop_first (x ∷ xs) ys = drop_first xs ys
 
 -- one command more is put into the queue
 pub put_more : (cs : List G) (c : G) (old mid new : List Entry) → ArePut cs old mid → IsPut c mid new → ArePut (cs ++ c ∷ []) old new
@@ -30,7 +28,8 @@ put_more (d ∷ cs) c old mid new p is = (p.0, p.1, put_more cs c p.0 mid new p.
 
 module _ {J : Type 0} (base : State) where
   -- one answer more is received
-  pub heard_more : (cs : List G) (c : G) (old mid new : Heard) (rs : List (Answer J)) (a : Answer J) → AreHeard base cs old mid rs → IsHeard base c mid new a → AreHeard base (cs ++ c ∷ []) old new (rs ++ a ∷ [])
+  pub heard_more : (cs : List G) (c : G) (old mid new : Heard) (rs : List (Answer J)) (a : Answer J) → AreHeard base cs old mid rs →
+      IsHeard base c mid new a → AreHeard base (cs ++ c ∷ []) old new (rs ++ a ∷ [])
   heard_more [] c old mid new [] a h is = (new, subst (λ m. IsHeard base c m new a) h is, refl)
   heard_more [] c old mid new (b ∷ rs) a h is = absurd h
   heard_more (d ∷ cs) c old mid new [] a h is = absurd h
@@ -61,7 +60,9 @@ module _ {J : Type 0} (base : State) where
   last_whole c [] old new (a ∷ (b ∷ rs)) h = absurd h.2
   last_whole c (d ∷ cs) old new (a ∷ rs) h = (h.0, h.1, last_whole d cs h.0 new rs h.2)
 
-  pub all_heard : (cs : List G) (received : List Sent) (seen : List G) (new : Heard) (rs : List (Answer J)) → AreHeard base cs (heard received seen (length seen)) new rs → AreHeard base cs (heard received seen (length seen)) (heard new.received new.seen (length new.seen)) rs
+  pub all_heard : (cs : List G) (received : List Sent) (seen : List G) (new : Heard) (rs : List (Answer J)) →
+      AreHeard base cs (heard received seen (length seen)) new rs →
+      AreHeard base cs (heard received seen (length seen)) (heard new.received new.seen (length new.seen)) rs
   all_heard [] received seen new [] h = λ i. heard (h i).received (h i).seen (length (h i).seen)
   all_heard [] received seen new (a ∷ rs) h = absurd h
   all_heard (c ∷ cs) received seen new rs h = last_whole c cs (heard received seen (length seen)) new rs h
@@ -107,7 +108,8 @@ module _ (J : Type 0) (base : State) where
   all_refused [] v le = refl
   all_refused (c ∷ cs) v le = (v, refused c v le, all_refused cs v le)
 
-  pub then_refused : (cs ds : List G) (v w : SessionView) (rs : List (Answer J)) → w.reached ≤ length w.seen → AreSubmissions base cs v w rs → AreSubmissions base (cs ++ ds) v w (rs ++ replicate (length ds) answer.NoMemory)
+  pub then_refused : (cs ds : List G) (v w : SessionView) (rs : List (Answer J)) → w.reached ≤ length w.seen → AreSubmissions base cs v w rs →
+      AreSubmissions base (cs ++ ds) v w (rs ++ replicate (length ds) answer.NoMemory)
   then_refused [] ds v w [] le is = subst (λ u. AreSubmissions {J = J} base ds u w (replicate (length ds) answer.NoMemory)) is (all_refused ds w le)
   then_refused [] ds v w (a ∷ rs) le is = absurd is
   then_refused (c ∷ cs) ds v w [] le is = absurd is

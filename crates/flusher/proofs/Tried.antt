@@ -1,5 +1,5 @@
 -- What one call of the store comes to.
-use Rattle.std.specs.Prelude.{◌⊎◌, Bool, not, is_some, map, Result, Ok, Err, IsErrOf, IfOk, IfErr, OnOk, OnErr, Vec, None}
+use Rattle.std.specs.Prelude.{◌⊎◌, Bool, not, is_some, map, Result, Ok, Err, IsErrOf, IfOk, IfErr, OnOk, OnErr, Vec}
 use Rattle.std.specs.Borrow.{Bor}
 use Rattle.std.specs.declared.alloc.Global.{Global}
 use Rattle.std.proofs.Common.{◌≡◌, ℕ, suc, ◌+◌, ◌*◌, ◌^◌, ◌<◌, ◌≤◌, inl, inr, true, false, true≢false, List, [], ◌∷◌, ◌++◌, length, refl, ap, sym, ◌∙◌, subst, arith}
@@ -15,7 +15,6 @@ use Rattle.std.specs.List.{flat_map}
 use Rattle.gated_journal.proofs.Given.{given_size}
 use Rattle.gated_journal.proofs.Written.{head_most}
 use Rattle.gated_journal.specs.Settled.{room_of, text_at}
-use Rattle.checkpoint.specs.Layout.{other_of}
 use Rattle.checkpoint.specs.declared.layout.Layout.{Layout}
 use Rattle.checkpoint.specs.declared.side.Side.{Side}
 use Rattle.recovery.specs.declared.outcome.Outcome.{Outcome}
@@ -29,8 +28,9 @@ use Rattle.recovery.specs.Refusals.{IsOfCheckpoint, IsOfCommit}
 use Rattle.recovery.specs.Stored.{fresh_place}
 use Rattle.recovery.proofs.Stored.{fits_fresh}
 use Rattle.recovery.proofs.Committed.{none_kept, room_kept}
+use Rattle.snapshots.specs.Counts.{IsNext}
 use Rattle.flusher.specs.declared.committing.Attempts.{Attempts}
-use Rattle.flusher.specs.Attempts.{HasAttempted, HasFailedNext, IsAtMostNext, IsNext, WasOutOfMemory}
+use Rattle.flusher.specs.Attempts.{HasAttempted, WasOutOfMemory}
 use Rattle.flusher.specs.Batches.{AreKept, HasMadeRoom, HasRecorded, HasTried, IsAnswerOf, IsRefusedBy, IsUndone, LacksRoom}
 
 abbrev G : Type 0
@@ -68,7 +68,8 @@ module _ {D : Type 0} (view : D → View) (old new : StoreView Global D) where
 
   -- what the store says of its record
   pub kept_of : (cmds : List G) (r : Answers) → OnOk r ((recorded : List G) × (was_open : Bool) × AreRecorded Global old.register cmds new.register recorded × HasKept old new recorded
-      × ((view new.disk).calls ≡ (view old.disk).calls ++ commit_calls_by old.layout old.side old.epoch old.journal old.ongoing recorded (is_some new.ongoing) was_open)) → OnOk r (AreKept cmds old new true)
+      × ((view new.disk).calls ≡ (view old.disk).calls ++ commit_calls_by old.layout old.side old.epoch old.journal old.ongoing recorded
+      (is_some new.ongoing) was_open)) → OnOk r (AreKept cmds old new true)
   kept_of cmds (Ok o) h = record { recorded = h.0; these = h.2; kept = h.3 }
   kept_of cmds (Err e) h = tt
 
@@ -98,7 +99,8 @@ module _ {D : Type 0} (view : D → View) (old new : StoreView Global D) where
   tried_kept cmds (Err BadGeometry) h kept stored sound = absurd h
   tried_kept cmds (Err (Damaged at)) h kept stored sound = absurd h
 
-  pub tried_failed : (cmds : List G) (r : Answers) → old.broken ≡ false → HasTried cmds old new r → (IsErrOf r DiskFault → HasFailed (view old.disk) (view new.disk)) → new.broken ≡ true → HasFailed (view old.disk) (view new.disk)
+  pub tried_failed : (cmds : List G) (r : Answers) → old.broken ≡ false → HasTried cmds old new r →
+      (IsErrOf r DiskFault → HasFailed (view old.disk) (view new.disk)) → new.broken ≡ true → HasFailed (view old.disk) (view new.disk)
   tried_failed cmds (Ok o) sound h failed broken = absurd (true≢false (sym broken ∙ h.0.sound))
   tried_failed cmds (Err DiskFault) sound h failed broken = failed refl
   tried_failed cmds (Err NoMemory) sound h failed broken = absurd (up h sound broken)
@@ -111,26 +113,30 @@ module _ {D : Type 0} (view : D → View) (old new : StoreView Global D) where
 
   -- ---- a checkpoint
 
-  same_view : new.layout ≡ old.layout → new.side ≡ old.side → new.epoch ≡ old.epoch → new.journal ≡ old.journal → new.ongoing ≡ old.ongoing → new.register ≡ old.register → new.broken ≡ old.broken → new.disk ≡ old.disk → new.found ≡ old.found → new ≡ old
+  same_view : new.layout ≡ old.layout → new.side ≡ old.side → new.epoch ≡ old.epoch → new.journal ≡ old.journal → new.ongoing ≡ old.ongoing →
+      new.register ≡ old.register → new.broken ≡ old.broken → new.disk ≡ old.disk → new.found ≡ old.found → new ≡ old
   same_view a b c d e f g h k = λ i. record { layout = a i; side = b i; epoch = c i; journal = d i; ongoing = e i; register = f i; broken = g i; disk = h i; found = k i }
 
-  pub made_by : (r : Result (Unit {0}) StoreFault) → old.broken ≡ false → (new.layout ≡ old.layout) × (new.register ≡ old.register) × (new.found ≡ old.found) → OnOk r ((new.side ≡ other_of old.side) × (new.epoch ≡ old.epoch + 1) × (new.ongoing ≡ None))
-      → OnOk r (new.journal ≡ fresh_place old.layout (other_of old.side) old.register.count) → OnErr r ((new.side ≡ old.side) × (new.epoch ≡ old.epoch) × (new.journal ≡ old.journal)) → OnOk r (new.broken ≡ false)
-      → (IsErrOf r Broken → old.broken ≡ true) → (IsErrOf r EpochsUsedUp → (last_epoch ≤ old.epoch) × (new.disk ≡ old.disk) × (new.broken ≡ false) × (new.ongoing ≡ old.ongoing)) → (IsErrOf r DiskFault → new.broken ≡ true)
+  pub made_by : (r : Result (Unit {0}) StoreFault) → old.broken ≡ false → (new.layout ≡ old.layout) × (new.register ≡ old.register) ×
+      (new.found ≡ old.found) → OnOk r (HasRoom old new false) →
+      OnErr r ((new.side ≡ old.side) × (new.epoch ≡ old.epoch) × (new.journal ≡ old.journal)) → OnOk r (new.broken ≡ false)
+      → (IsErrOf r Broken → old.broken ≡ true) →
+      (IsErrOf r EpochsUsedUp → (last_epoch ≤ old.epoch) × (new.disk ≡ old.disk) × (new.broken ≡ false) × (new.ongoing ≡ old.ongoing)) →
+      (IsErrOf r DiskFault → new.broken ≡ true)
       → IfErr r IsOfCheckpoint → HasMadeRoom old new r
-  made_by (Ok done) sound same sides journal unmoved up only epochs fault kinds = record {
+  made_by (Ok done) sound same room unmoved up only epochs fault kinds = record {
     undone = record { register = same.1; sound = up };
     layout = same.0;
-    room = (record { side = sides.0; epoch = sides.1; journal = journal }, sides.2);
+    room = room;
   }
-  made_by (Err Unformatted) sound same sides journal unmoved up only epochs fault kinds = absurd kinds
-  made_by (Err BadGeometry) sound same sides journal unmoved up only epochs fault kinds = absurd kinds
-  made_by (Err (Damaged at)) sound same sides journal unmoved up only epochs fault kinds = absurd kinds
-  made_by (Err DiskFault) sound same sides journal unmoved up only epochs fault kinds = (same.1, fault refl)
-  made_by (Err Broken) sound same sides journal unmoved up only epochs fault kinds = absurd (true≢false (sym (only refl) ∙ sound))
-  made_by (Err NoMemory) sound same sides journal unmoved up only epochs fault kinds = absurd kinds
-  made_by (Err Unready) sound same sides journal unmoved up only epochs fault kinds = absurd kinds
-  made_by (Err EpochsUsedUp) sound same sides journal unmoved up only epochs fault kinds =
+  made_by (Err Unformatted) sound same room unmoved up only epochs fault kinds = absurd kinds
+  made_by (Err BadGeometry) sound same room unmoved up only epochs fault kinds = absurd kinds
+  made_by (Err (Damaged at)) sound same room unmoved up only epochs fault kinds = absurd kinds
+  made_by (Err DiskFault) sound same room unmoved up only epochs fault kinds = (same.1, fault refl)
+  made_by (Err Broken) sound same room unmoved up only epochs fault kinds = absurd (true≢false (sym (only refl) ∙ sound))
+  made_by (Err NoMemory) sound same room unmoved up only epochs fault kinds = absurd kinds
+  made_by (Err Unready) sound same room unmoved up only epochs fault kinds = absurd kinds
+  made_by (Err EpochsUsedUp) sound same room unmoved up only epochs fault kinds =
       let e = epochs refl in
       (same_view same.0 unmoved.0 unmoved.1 unmoved.2 e.3 same.1 (e.2 ∙ sym sound) e.1 same.2, e.0)
 
@@ -145,7 +151,8 @@ module _ {D : Type 0} (view : D → View) (old new : StoreView Global D) where
   made_kept (Err BadGeometry) h kept stored sound = absurd h
   made_kept (Err (Damaged at)) h kept stored sound = absurd h
 
-  pub made_failed : (r : Result (Unit {0}) StoreFault) → old.broken ≡ false → HasMadeRoom old new r → (IsErrOf r DiskFault → HasFailed (view old.disk) (view new.disk)) → new.broken ≡ true → HasFailed (view old.disk) (view new.disk)
+  pub made_failed : (r : Result (Unit {0}) StoreFault) → old.broken ≡ false → HasMadeRoom old new r →
+      (IsErrOf r DiskFault → HasFailed (view old.disk) (view new.disk)) → new.broken ≡ true → HasFailed (view old.disk) (view new.disk)
   made_failed (Ok done) sound h failed broken = absurd (true≢false (sym broken ∙ h.undone.sound))
   made_failed (Err DiskFault) sound h failed broken = failed refl
   made_failed (Err EpochsUsedUp) sound h failed broken = absurd (up h.0 sound broken)
@@ -173,12 +180,6 @@ two_other n m k f h e = elim (more_or_not n) [
 pub out_at : (was now : Attempts) (r : Answers) → HasAttempted was r now → IsErrOf r NoMemory → WasOutOfMemory was now
 out_at was now r h is = record { refused = h.exact.1 is; tried = next_other was.count now.count h.counted }
 
-pub out_again : (was mid now : Attempts) → IsAtMostNext was mid → HasFailedNext mid now → WasOutOfMemory was now
-out_again was mid now first f = record {
-  refused = f.1;
-  tried = elim first [ inl same ↦ next_other was.count now.count (subst (λ n. IsNext n now.count) same f.0) | inr next ↦ two_other was.count mid.count now.count next f.0 ];
-}
-
 pub out_after : (was mid now : Attempts) (q r : Answers) → HasAttempted was q mid → HasAttempted mid r now → IsErrOf r NoMemory → WasOutOfMemory was now
 out_after was mid now q r f h is = record { refused = h.exact.1 is; tried = two_other was.count mid.count now.count f.counted h.counted }
 
@@ -191,7 +192,8 @@ none_recorded : {D : Type 0} (cmds : List G) (store : StoreView Global D) → Ar
 none_recorded cmds store = record { recorded = []; these = record { applied = 0; state = refl; these = refl }; kept = none_kept store }
 
 -- the commit from the middle one, after a checkpoint or where the store was
-module _ {D : Type 0} (cmds : List G) (old mid new : StoreView Global D) (made_room : Bool) (lacks : made_room ≡ true → LacksRoom old.journal cmds) (layout : mid.layout ≡ old.layout) (room : HasRoom old mid (not made_room)) (u : IsUndone old mid) where
+module _ {D : Type 0} (cmds : List G) (old mid new : StoreView Global D) (made_room : Bool) (lacks : made_room ≡ true → LacksRoom old.journal cmds)
+    (layout : mid.layout ≡ old.layout) (room : HasRoom old mid (not made_room)) (u : IsUndone old mid) where
   recorded_after : AreKept cmds mid new true → HasRecorded cmds old new
   recorded_after k = record {
     made_room = made_room;
@@ -224,11 +226,13 @@ module _ {D : Type 0} (cmds : List G) (old mid new : StoreView Global D) (made_r
   answered_after (Err (Damaged at)) was now n out h = absurd h
 
 -- the first commit, without a checkpoint
-pub answered_at_once : {D : Type 0} (cmds : List G) (old new : StoreView Global D) (r : Answers) (was now : Attempts) → old.broken ≡ false → (IsErrOf r Unready → ⊥) → (IsErrOf r NoMemory → WasOutOfMemory was now) → HasTried cmds old new r → IsAnswerOf cmds old new r was now
+pub answered_at_once : {D : Type 0} (cmds : List G) (old new : StoreView Global D) (r : Answers) (was now : Attempts) → old.broken ≡ false →
+    (IsErrOf r Unready → ⊥) → (IsErrOf r NoMemory → WasOutOfMemory was now) → HasTried cmds old new r → IsAnswerOf cmds old new r was now
 answered_at_once cmds old new r was now sound = answered_after cmds old old new false (λ e. absurd (true≢false (sym e))) refl (none_kept old) (undone_self old sound) r was now
 
 -- a checkpoint that was not made
-pub refused_before : {D : Type 0} (cmds : List G) (old new : StoreView Global D) (fault : StoreFault) (was now : Attempts) → (cmds ≡ [] → ⊥) → LacksRoom old.journal cmds → HasMadeRoom old new (Err fault) → IsRefusedBy cmds old new fault was now
+pub refused_before : {D : Type 0} (cmds : List G) (old new : StoreView Global D) (fault : StoreFault) (was now : Attempts) → (cmds ≡ [] → ⊥) →
+    LacksRoom old.journal cmds → HasMadeRoom old new (Err fault) → IsRefusedBy cmds old new fault was now
 refused_before cmds old new DiskFault was now some lacks h = record { broken = h.1; some = some; in_checkpoint = true; register = inl h.0 }
 refused_before cmds old new EpochsUsedUp was now some lacks h = (h.0, h.1, lacks)
 refused_before cmds old new NoMemory was now some lacks h = absurd h
@@ -251,24 +255,29 @@ unready_is cmds old new (Err BadGeometry) is h = absurd h
 unready_is cmds old new (Err (Damaged at)) is h = absurd h
 
 -- a record of 64 commands at most takes so many sectors at most
-pub few_sectors : (cs : List (Bor G)) (size : ℕ) → length cs ≤ 64 → size ≡ length (flat_map (λ c. command_text c.now) cs) → size ≤ longest * length cs → (form : Form) (before : ℕ) → data_size (record_text form before (given Global cs)) ≤ most_sectors
+pub few_sectors : (cs : List (Bor G)) (size : ℕ) → length cs ≤ 64 → size ≡ length (flat_map (λ c. command_text c.now) cs) →
+    size ≤ longest * length cs → (form : Form) (before : ℕ) → data_size (record_text form before (given Global cs)) ≤ most_sectors
 few_sectors cs size few is most form before =
     let text = given_size Global form before cs in
     omega (arith, text, (head_most form).1, is, most, few)
 
 -- after a checkpoint a record of them fits
-pub not_again : {D : Type 0} (cs : List (Bor G)) (layout : Layout) (side : Side) (count : ℕ) (mid new : StoreView Global D) (r : Answers) → ((form : Form) (before : ℕ) → data_size (record_text form before (given Global cs)) ≤ most_sectors)
+pub not_again : {D : Type 0} (cs : List (Bor G)) (layout : Layout) (side : Side) (count : ℕ) (mid new : StoreView Global D) (r : Answers) →
+    ((form : Form) (before : ℕ) → data_size (record_text form before (given Global cs)) ≤ most_sectors)
     → mid.journal ≡ fresh_place layout side count → HasTried (asked cs) mid new r → IsErrOf r Unready → ⊥
 not_again cs layout side count mid new r most is h unready =
     let fits = fits_fresh Global ok_unit layout side count mid.journal cs most is in
-    let lacks : room_of mid.journal < data_size (text_at Global mid.journal cs) = subst (λ l. room_of mid.journal < data_size (record_text mid.journal.form mid.journal.count l)) (given_asked cs) (unready_is (asked cs) mid new r unready h).1 in
+    let lacks : room_of mid.journal < data_size (text_at Global mid.journal cs) =
+    subst (λ l. room_of mid.journal < data_size (record_text mid.journal.form mid.journal.count l)) (given_asked cs)
+    (unready_is (asked cs) mid new r unready h).1 in
     omega (arith, fits, lacks)
   where
     ok_unit : Result (Unit {0}) StoreFault
     ok_unit = Ok tt
 
 -- no commands
-pub none_committed : {D : Type 0} (cmds : List G) (store : StoreView Global D) (v : Vec (Outcome Global) Global) (was now : Attempts) → cmds ≡ [] → v.items ≡ [] → store.broken ≡ false → IsAnswerOf cmds store store (Ok v) was now
+pub none_committed : {D : Type 0} (cmds : List G) (store : StoreView Global D) (v : Vec (Outcome Global) Global) (was now : Attempts) → cmds ≡ [] →
+    v.items ≡ [] → store.broken ≡ false → IsAnswerOf cmds store store (Ok v) was now
 none_committed {D} cmds store v was now none empty sound = subst (λ (cs : List G). IsAnswerOf cs store store (Ok v) was now) (sym none) (
   record {
     answered = record {

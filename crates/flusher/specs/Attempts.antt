@@ -1,14 +1,15 @@
 -- Whether a commit, or a publication, was out of memory.
-use Rattle.std.specs.Prelude.{◌≡◌, ◌⊎◌, ◌↔◌, ◌<◌, ◌≤◌, ◌+◌, ◌^◌, ℕ, true, IsTrue, IsErrOf, Result, Vec}
+use Rattle.std.specs.Prelude.{◌≡◌, ◌↔◌, ℕ, true, false, IsTrue, IsErrOf, Result, Vec}
 use Rattle.std.specs.declared.alloc.Global.{Global}
 use Rattle.recovery.specs.declared.outcome.Outcome.{Outcome}
 use Rattle.recovery.specs.declared.fault.StoreFault.{StoreFault}
 use Rattle.recovery.specs.declared.fault.StoreFault.TheVariants.{NoMemory}
+use Rattle.snapshots.specs.Counts.{IsNext}
 use Rattle.flusher.specs.declared.committing.Attempts.{Attempts}
 
--- the next number of 64 bits: 0 after the greatest
-abbrev pub IsNext : ℕ → ℕ → Type 0
-IsNext n m = (n + 1 < 2 ^ 64 → m ≡ n + 1) × (2 ^ 64 ≤ n + 1 → m ≡ 0)
+-- none was tried
+abbrev pub none_tried : Attempts
+none_tried = record { count = 0; refused = false }
 
 -- one more commit was tried, and whether it was out of memory is noted
 pub record HasAttempted (was : Attempts) (result : Result (Vec (Outcome Global) Global) StoreFault) (now : Attempts) : Type 0 where
@@ -20,19 +21,15 @@ pub record WasOutOfMemory (was now : Attempts) : Type 0 where
   pub refused : now.refused ≡ true
   pub tried : now.count ≡ was.count → ⊥
 
--- none was tried in between, or one
-abbrev pub IsAtMostNext : Attempts → Attempts → Type 0
-IsAtMostNext was now = (now.count ≡ was.count) ⊎ IsNext was.count now.count
+-- one call of the publisher in between was out of memory, by how many were before and are now
+abbrev pub HasBeenRefused : ℕ → ℕ → Type 0
+HasBeenRefused was now = IsNext was now
 
--- one more was tried, and it was out of memory
-abbrev pub HasFailedNext : Attempts → Attempts → Type 0
-HasFailedNext was now = IsNext was.count now.count × (now.refused ≡ true)
-
--- how commits were tried, and how publications
+-- how commits were tried, and how many calls of the publisher were out of memory
 pub record Tries : Type 0 where
   pub commits : Attempts
-  pub publications : Attempts
+  pub publications : ℕ
 
--- these two
-abbrev pub tries : Attempts → Attempts → Tries
+-- commits that were tried so, and publications of which so many were out of memory
+abbrev pub tries : Attempts → ℕ → Tries
 tries commits publications = record { commits = commits; publications = publications }

@@ -98,7 +98,7 @@ module _ {D : Type 0} (commands : List (Asked Global)) (old new : StoreView Glob
     pub these : AreRecorded Global old.register commands new.register recorded
     pub kept : HasKept (with_room fits old) new recorded
 
-  -- the same, and a checkpoint was made only if a record of all the commands would not fit
+  -- the accepted commands are kept as one record, and a checkpoint was made only if a record of all the commands would not fit
   pub record HasRecorded : Type 0 where
     pub made_room : Bool
     pub lacks : made_room ≡ true → LacksRoom old.journal commands
@@ -135,7 +135,7 @@ module _ {D : Type 0} (commands : List (Asked Global)) (old new : StoreView Glob
   HasTried (Err BadGeometry) = ⊥
   HasTried (Err (Damaged at)) = ⊥
 
-  -- the same of a commit that first makes a checkpoint if a record would not fit
+  -- what a commit of a sound store gives that first makes a checkpoint if a record would not fit
   abbrev pub IsAnswerOf : Result (Vec (Outcome Global) Global) StoreFault → Attempts → Attempts → Type 0
   IsAnswerOf (Ok outcomes) was now = IsDone outcomes.items × HasRecorded
   IsAnswerOf (Err fault) was now = IsRefusedBy fault was now

@@ -20,7 +20,7 @@ IsReplyAfter base commands c (Accepted n p) = Lands base commands c n p
 IsReplyAfter base commands c (Kept n p) = IsKeptOf base commands c n p
 IsReplyAfter base commands c (Refused r) = reply_to (after base commands) c ≡ Refused r
 
--- the same of a decision; out of memory and a fault need nothing
+-- These commands bear out a decision: its reply, if it is one. Out of memory and a fault need nothing.
 abbrev pub IsDecisionAfter : State → List (Asked Global) → Asked Global → Decision → Type 0
 IsDecisionAfter base commands c (decision.Replied r) = IsReplyAfter base commands c r
 IsDecisionAfter base commands c decision.NoMemory = Unit {0}

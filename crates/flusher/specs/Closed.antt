@@ -61,7 +61,7 @@ module _ {J D : Type 0} where
     -- the durable commands of its station are some of those that it sent, in the same order
     pub order : Sublist (of_station end.sender.station f.durable) (commands_among end.sender.sent)
 
-  -- the same of each session
+  -- each session of the closed centre is as `IsClosedSession` says
   pub record IsClosed (base : State) (f : FlusherView D) (ended : List (Ended J)) : Type 0 where
     pub each : IsTrueOfEach f ended (λ k. IsClosedSession base f)
 

@@ -3,6 +3,6 @@ use Rattle.std.specs.Prelude.{◌≡◌, ◌↔◌, ℕ, ◌+◌, Bool, IsTrue, 
 use Rattle.station_queue.specs.declared.entry.Entry.{Entry}
 use Rattle.station_queue.specs.declared.entry.Entry.TheVariants.{Ended}
 
--- there is a flag for each station, the first for station 1; it is set exactly if the end of the station's session was taken
+-- these are flags of stations, the first of station 1: each is set exactly if the end of its station's session was taken
 abbrev pub AreEnded : List Bool → List Entry → Type 0
 AreEnded ended taken = (k : ℕ) (flag : Bool) → slice_get ended k ≡ Some flag → IsTrue flag ↔ Contains taken (Ended (k + 1))

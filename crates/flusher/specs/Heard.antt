@@ -1,5 +1,5 @@
--- The two parts of submitting commands together: all are put into the queue, and then their answers are received.
-use Rattle.std.specs.Prelude.{◌≡◌, ◌⊎◌, ℕ, List, [], ◌∷◌, ◌++◌}
+-- The two parts of submitting commands together: a prefix of them is put into the queue, and then their answers are received.
+use Rattle.std.specs.Prelude.{◌≡◌, ◌⊎◌, ◌+◌, ◌-◌, ℕ, Bool, false, List, [], ◌∷◌, ◌++◌, drop, length, replicate, take}
 use Rattle.std.specs.declared.alloc.Global.{Global}
 use mathlib.Core.List.{IsPrefix}
 use Rattle.centre_core.specs.Asked.{Asked}
@@ -15,13 +15,18 @@ abbrev pub ArePut : List (Asked Global) → List Entry → List Entry → Type 0
 ArePut [] old new = new ≡ old
 ArePut (c ∷ cs) old new = (mid : List Entry) × IsPut c old mid × ArePut cs mid new
 
+-- so many more answers were received; or the flusher was found gone, before or in the call
+pub record HaveAllCome (count : ℕ) (was now : Bool) (old new : List Sent) : Type 0 where
+  pub found : now ≡ false → was ≡ false
+  pub all : now ≡ false → length new ≡ length old + count
+
 -- what a session received, the list that it has seen, and how many commands of that list it has reached
 pub record Heard : Type 0 where
   pub received : List Sent
   pub seen : List (Asked Global)
   pub reached : ℕ
 
--- the same, with these parts
+-- what a session has heard, with these parts
 abbrev pub heard : List Sent → List (Asked Global) → ℕ → Heard
 heard received seen reached = record { received = received; seen = seen; reached = reached }
 
@@ -30,7 +35,12 @@ abbrev pub session_view : List Entry → Heard → SessionView
 session_view sent h = record { sent = sent; received = h.received; seen = h.seen; reached = h.reached }
 
 module _ {J : Type 0} where
-  -- the answer to a command that was put into the queue was received, or the flusher is gone
+  -- a prefix of the commands was put into the queue, and each of the others is answered as out of memory
+  abbrev pub ArePutFirst : List (Asked Global) → List Entry → List Entry → List (Answer J) → Type 0
+  ArePutFirst cs old new answers =
+      (put : ℕ) × ArePut (take put cs) old new × (drop put answers ≡ replicate (length cs - put) answer.NoMemory)
+
+  -- the answer to a command that was put into the queue was received, or none was, and it is answered that the flusher is gone
   pub record IsHeard (base : State) (c : Asked Global) (old new : Heard) (a : Answer J) : Type 0 where
     pub received : ((x : Sent) × (new.received ≡ old.received ++ x ∷ []) × Fits base c old.seen old.reached x new.seen a)
         ⊎ ((new.received ≡ old.received) × (new.seen ≡ old.seen) × (a ≡ answer.Closed))

@@ -17,7 +17,9 @@ pub mod Runs
 pub mod Core
 pub mod Lasting
 pub mod Lives
+pub mod OnDisk
 pub mod Since
 pub mod Closed
 pub mod Borne
 pub mod Order
+pub mod Inside

@@ -1,11 +1,13 @@
 -- Rounds in the life of a disk.
-use Rattle.std.specs.Prelude.{◌≡◌, true, List, [], ◌∷◌, ◌++◌}
+use Rattle.std.specs.Prelude.{◌≡◌, true, false, List, [], ◌∷◌, ◌++◌}
 use Rattle.std.specs.declared.alloc.Global.{Global}
 use Rattle.identity.specs.Numbers.{Byte}
 use Rattle.sector_disk.specs.Disk.{View}
 use Rattle.centre_core.specs.Asked.{Asked}
 use Rattle.centre_core.specs.State.{State}
+use Rattle.centre_core.specs.History.{after}
 use Rattle.recovery.specs.Lives.{Answered, Closed, ComesBack, Event, IsCall, IsLife, Open, Unanswered, stopped}
+use Rattle.flusher.specs.Order.{AreInOrder}
 use Rattle.flusher.specs.Rounds.{IsRound}
 use Rattle.flusher.specs.Stored.{AreUnderWay}
 use Rattle.flusher.specs.View.{FlusherView}
@@ -43,3 +45,15 @@ pub record HasLived {D : Type 0} (view : D → View) (base from : State) (before
   pub stops : (image : List (List Byte)) (disk : D) → (view last.store.disk).since (view first.store.disk).moment image
       → ComesBack Global view image disk
       → (cut : List (Event Global)) × AreCutShort events cut × IsLife Global view from (cut ++ before) (Closed disk)
+
+module _ {D : Type 0} (view : D → View) (base : State) where
+  -- A life of the disk came to this flusher's store by these events. The register of a sound store is what the durable commands make, and
+  -- these were taken in this order.
+  pub record IsInLife (from : State) (before : List (Event Global)) (f : FlusherView D) : Type 0 where
+    pub life : IsLife Global view from before (Open f.store)
+    pub made : f.store.broken ≡ false → f.store.register ≡ after base f.durable
+    pub order : AreInOrder f.durable f.taker.taken
+
+  -- each life of the disk that came to the first flusher, between two rounds, goes on to the last one
+  abbrev pub LivesOn : FlusherView D → FlusherView D → Type 0
+  LivesOn first last = (from : State) (before : List (Event Global)) → IsInLife from before first → HasLived view base from before first last

@@ -1,5 +1,5 @@
 -- What a run of the flusher does: rounds, until the end of each session was taken.
-use Rattle.std.specs.Prelude.{◌≡◌, ℕ, ◌+◌, ◌<◌, length, slice_get, Some, Contains}
+use Rattle.std.specs.Prelude.{◌≡◌, ◌⊎◌, ℕ, ◌+◌, ◌<◌, length, slice_get, Some, Contains}
 use Rattle.sector_disk.specs.Disk.{View}
 use Rattle.crossbeam_channel.specs.Ends.{sends_on}
 use Rattle.centre_core.specs.State.{State}
@@ -17,6 +17,10 @@ pub data AreRounds {D : Type 0} (view : D → View) (base : State) : FlusherView
 -- the end of each session is among the entries taken
 abbrev pub HasTakenEnds : {D : Type 0} → FlusherView D → Type 0
 HasTakenEnds f = (k : ℕ) → k < length f.senders → Contains f.taker.taken (Ended (k + 1))
+
+-- no round was done once the end of each session was taken: none was done at all, or before the last one an end was missing
+abbrev pub HasStopped : {D : Type 0} → (D → View) → State → FlusherView D → FlusherView D → Type 0
+HasStopped {D} view base f h = (h ≡ f) ⊎ ((g : FlusherView D) × AreRounds view base f g × (HasTakenEnds g → ⊥) × IsRound view base g h)
 
 -- the flusher still has its queue and its channels
 pub record HasSameEnds {D : Type 0} (f g : FlusherView D) : Type 0 where

@@ -1,5 +1,5 @@
 -- What a round has done with its commands, and what always holds between two rounds.
-use Rattle.std.specs.Prelude.{◌≡◌, ◌⊎◌, ◌<◌, ◌≤◌, Bool, true, false, cond, List, ◌++◌, length}
+use Rattle.std.specs.Prelude.{◌≡◌, ◌⊎◌, ◌<◌, ◌≤◌, ℕ, Bool, true, false, cond, List, ◌++◌, length}
 use mathlib.Core.List.{IsPrefix}
 use Rattle.std.specs.declared.alloc.Global.{Global}
 use Rattle.sector_disk.specs.Numbers.{Tick}
@@ -13,11 +13,10 @@ use Rattle.recovery.specs.Outcomes.{IsAnswered}
 use Rattle.recovery.specs.declared.outcome.Outcome.{Outcome}
 use Rattle.recovery.specs.declared.fault.StoreFault.{StoreFault}
 use Rattle.recovery.specs.declared.fault.StoreFault.TheVariants.{BadGeometry, Broken, Damaged, DiskFault, EpochsUsedUp, NoMemory, Unformatted, Unready}
-use Rattle.flusher.specs.declared.committing.Attempts.{Attempts}
 use Rattle.flusher.specs.declared.decision.Decision.{Decision}
 use Rattle.flusher.specs.declared.decision.Decision.TheVariants as decision
 use Rattle.flusher.specs.Stages.{Sent, HasRun, commands_of, sent_by, sent_to_all}
-use Rattle.flusher.specs.Attempts.{WasOutOfMemory}
+use Rattle.flusher.specs.Attempts.{HasBeenRefused, WasOutOfMemory}
 use Rattle.flusher.specs.Batches.{HasBroken, HasRecorded, LacksRoom, accepted_by}
 use Rattle.flusher.specs.Endings.{AreEnded}
 use Rattle.flusher.specs.Answerings.{HaveAnswered}
@@ -57,7 +56,7 @@ module _ {D : Type 0} (base : State) (t : Tick) (f g : Progress D) (commands : L
     pub answered : IsAnswered (after base f.durable) commands (after base g.durable) outcomes
     pub durable : g.durable ≡ f.durable ++ accepted_by commands outcomes
     pub published : g.published ≡ cond all g.durable f.durable
-    pub some : all ≡ false → (length f.durable < length g.durable) × WasOutOfMemory f.attempts.publications g.attempts.publications
+    pub some : all ≡ false → (length f.durable < length g.durable) × HasBeenRefused f.attempts.publications g.attempts.publications
     pub sound : g.store.broken ≡ false
     pub each : answers ≡ sent_by t g.published all commands outcomes
     pub recorded : HasRecorded commands f.store g.store
@@ -81,10 +80,11 @@ module _ {D : Type 0} (base : State) (t : Tick) (f g : Progress D) (commands : L
     pub published : g.published ≡ f.durable
     pub each : answers ≡ sent_to_all t g.published (decision_by fault) commands
 
-  -- what was durable before could still not be published for want of memory: nothing is committed, and each command is answered as out of memory
+  -- what was durable before could still not be published: the publisher was called, and was out of memory. Nothing is committed, and each
+  -- command is answered as out of memory
   pub record HasNotCaughtUp : Type 0 where
     pub fewer : length f.published < length f.durable
-    pub refused : WasOutOfMemory f.attempts.publications g.attempts.publications
+    pub refused : HasBeenRefused f.attempts.publications g.attempts.publications
     pub durable : g.durable ≡ f.durable
     pub published : g.published ≡ f.published
     pub store : g.store ≡ f.store
@@ -115,10 +115,10 @@ pub record HasServed {D : Type 0} (base : State) (t : Tick) (f g : Progress D) (
   pub served : AreServed base t f g commands answers
 
 -- What became durable was published, or that ran out of memory, and each command was answered by its outcome, at moment t. `was` and `now`
--- count the publications tried before and after it.
-pub record HavePublished (t : Tick) (was now : Attempts) (before durable list commands : List (Asked Global)) (outcomes : List (Outcome Global))
+-- count the calls of the publisher that were out of memory, before and after it.
+pub record HavePublished (t : Tick) (was now : ℕ) (before durable list commands : List (Asked Global)) (outcomes : List (Outcome Global))
     (old new : List (AnswerSender Sent)) : Type 0 where
   pub all : Bool
   pub published : list ≡ cond all durable before
-  pub some : all ≡ false → (length before < length durable) × WasOutOfMemory was now
+  pub some : all ≡ false → (length before < length durable) × HasBeenRefused was now
   pub answered : HaveAnswered old (sent_by t list all commands outcomes) new

@@ -13,11 +13,11 @@ abbrev pub HasShortOutcome : Outcome Global → Type 0
 HasShortOutcome (outcome.Replied r) = HasShortPdu r
 HasShortOutcome outcome.NoMemory = Unit {0}
 
--- the same of each of these outcomes
+-- the PDU of each of these outcomes, if it has one, has at most 2,048 bits
 abbrev pub AreShort : List (Outcome Global) → Type 0
 AreShort os = AllByRecursion HasShortOutcome os
 
--- the same of a decision
+-- the PDU of the reply that is decided, if it has one, has at most 2,048 bits
 abbrev pub HasShortDecision : Decision → Type 0
 HasShortDecision (decision.Replied r) = HasShortPdu r
 HasShortDecision decision.NoMemory = Unit {0}

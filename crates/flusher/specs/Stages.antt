@@ -46,7 +46,7 @@ BearsOut base published c (Accepted n p) = Lands base published c n p
 BearsOut base published c (Kept n p) = n ≤ base.count + length published → IsKeptOf base published c n p
 BearsOut base published c (Refused r) = (l : List (Asked Global)) × IsHistory base l × (reply_to (after base l) c ≡ Refused r)
 
--- the same of a decision; one that is no reply needs nothing
+-- The published list bears out a decision: its reply, if it is one. Out of memory and a fault need nothing.
 abbrev pub BearsOutDecision : State → List (Asked Global) → Asked Global → Decision → Type 0
 BearsOutDecision base published c (decision.Replied r) = BearsOut base published c r
 BearsOutDecision base published c decision.NoMemory = Unit {0}
@@ -108,7 +108,7 @@ pub record Stage : Type 0 where
 abbrev pub stage : List (Asked Global) → List (Asked Global) → Bool → Bool → Stage
 stage published durable checking broken = record { published = published; durable = durable; checking = checking; broken = broken }
 
--- the same in the core between two rounds, after these answers
+-- the world of the core between two rounds, at this stage and after these answers
 abbrev pub world_of : Stage → List (Entry Global) → World Global
 world_of s answers = record {
   lines = [];

@@ -37,8 +37,8 @@ pub record IsStoredFor {D : Type 0} (view : D → View) (base : State) (f : Flus
   pub failed : f.store.broken ≡ true → (more : List (Asked Global)) × AreUnderWay base f more
       × InEach (view f.store.disk) (OpensToEither Global (after base f.durable) (after base (f.durable ++ more)))
 
--- The image opens to what was durable at some moment from one view to another. If the disk has failed then, it may also open to that and
--- further commands that were under way.
+-- The image opens to a list of commands that begins with what one view has durable, and begins what another has. If the disk has failed then,
+-- it may also open to that and further commands that were under way.
 abbrev pub OpensBetween : {D : Type 0} → State → FlusherView D → FlusherView D → List (List Byte) → Type 0
 OpensBetween base f g image =
     ((list : List (Asked Global)) × IsPrefix f.durable list × IsPrefix list g.durable × OpensTo Global (after base list) image)

@@ -111,7 +111,7 @@ module _ {J : Type 0} where
   abbrev pub IsAnswered : State → Asked Global → SessionView → SessionView → Answer J → Type 0
   IsAnswered base c old new a = (x : Sent) × (new.received ≡ old.received ++ x ∷ []) × Fits base c old.seen old.reached x new.seen a
 
-  -- none was received, because the flusher is gone
+  -- none was received, and the answer is that the flusher is gone
   abbrev pub IsUnanswered : SessionView → SessionView → Answer J → Type 0
   IsUnanswered old new a = (new.received ≡ old.received) × (new.seen ≡ old.seen) × (a ≡ answer.Closed)
 

@@ -13,8 +13,8 @@ use Rattle.flusher.specs.Attempts.{Tries, tries}
 use Rattle.flusher.specs.declared.committing.Committer.{Committer}
 use Rattle.flusher.specs.declared.flusher.Flusher.{Flusher}
 
--- The taker of the queue; the published commands, and the durable ones; the channels, one for each station; the store; how many commits
--- were tried, and how many publications, and whether the last one was out of memory; and for each station whether its end was taken.
+-- The taker of the queue; the published commands, and the durable ones; the channels, one for each station; the store; how commits were
+-- tried, and how many calls of the publisher were out of memory; and for each station whether its end was taken.
 pub record FlusherView (D : Type 0) : Type 0 where
   pub taker : Taking
   pub published : List (Asked Global)
@@ -36,7 +36,7 @@ view_of f = record {
   durable = durable_of f.publication;
   senders = f.senders.items;
   store = store_view f.committer.store;
-  attempts = tries f.committer.attempts f.publication.attempts;
+  attempts = tries f.committer.attempts f.publication.publisher.refusals;
   ended = f.ended.items;
 }
 
@@ -55,14 +55,14 @@ progress published durable store attempts = record { published = published; dura
 abbrev pub progress_of : {D : Type 0} → FlusherView D → Progress D
 progress_of f = progress f.published f.durable f.store f.attempts
 
--- the same, from its parts
+-- how far the flusher with this publication and this committer has come
 abbrev pub progress_by : {J D : Type 0} {g : Ghosts D} → Publication J → Committer D g → Progress D
-progress_by p c = progress p.publisher.published (durable_of p) (store_view c.store) (tries c.attempts p.attempts)
+progress_by p c = progress p.publisher.published (durable_of p) (store_view c.store) (tries c.attempts p.publisher.refusals)
 
 -- whether a checkpoint is under way in a store that is not broken
 abbrev pub is_checking : {D : Type 0} → StoreView Global D → Bool
 is_checking store = cond store.broken false (is_some store.ongoing)
 
--- the same in the core
+-- the stage of the core that has come as far
 abbrev pub stage_of : {D : Type 0} → Progress D → Stage
 stage_of f = stage f.published f.durable (is_checking f.store) f.store.broken

@@ -4,9 +4,10 @@ ghost use Rattle.std.specs.Arc.{arc_value};
 ghost use Rattle.std.specs.VecDeque.{deque_capacity};
 ghost use Rattle.flusher.specs.Shared.{commands_in};
 ghost use Rattle.flusher.specs.Short.{AreShort, HasShortDecision};
-ghost use Rattle.flusher.specs.Stages.{BearsOutDecision, BearsOutDecisions, sent, sent_by, sent_to_all, decision_for_all};
+ghost use Rattle.flusher.specs.Stages.{BearsOutDecision, BearsOutDecisions, sent, decision_for_all};
 ghost use Rattle.flusher.specs.Answerings.{HaveAnswered};
 ghost use Rattle.flusher.specs.Batches.{AreWithin};
+ghost use Rattle.flusher.specs.Inside.Serving.{answers_alike, answers_by};
 
 use crate::decision::Decision;
 use crate::publishing::{Shown, Stamp};
@@ -56,8 +57,7 @@ pub(crate) fn answer_all<J: Centre, R: Wait>(
     requires borne_out { BearsOutDecisions J.base shown.now.stamp.published shown.now.all (commands_in batch.old.items) outcomes.items }
     requires each { length outcomes.items ≡ length batch.old.items }
     requires short { AreShort outcomes.items }
-    ensures answered { HaveAnswered senders.old.items
-        (sent_by shown.now.stamp.moment.tick shown.now.stamp.published shown.now.all (commands_in batch.old.items) outcomes.items) senders.new.items }
+    ensures answered { HaveAnswered senders.old.items (answers_by shown.now (commands_in batch.old.items) outcomes.items) senders.new.items }
     ensures done { batch.new.items ≡ [] }
     ensures room { deque_capacity batch.new ≡ deque_capacity batch.old }
 {
@@ -89,8 +89,7 @@ pub(crate) fn answer_all_alike<J: Centre, R: Wait>(
     batch: &mut VecDeque<SharedCommand>,
 )
     requires stations { AreWithin (length senders.old.items) (commands_in batch.old.items) }
-    ensures answered { HaveAnswered senders.old.items
-        (sent_to_all stamp.now.moment.tick stamp.now.published (decision_for_all fault) (commands_in batch.old.items)) senders.new.items }
+    ensures answered { HaveAnswered senders.old.items (answers_alike stamp.now fault (commands_in batch.old.items)) senders.new.items }
     ensures done { batch.new.items ≡ [] }
     ensures room { deque_capacity batch.new ≡ deque_capacity batch.old }
 {

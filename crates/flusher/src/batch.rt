@@ -1,16 +1,16 @@
 //! A batch: how it is taken, and how it is committed.
-ghost use Rattle.std.specs.Prelude.{◌≡◌, ◌≤◌, ◌<◌, ◌*◌, ◌++◌, ◌+◌, ◌∷◌, [], true, false, IfOk, IfSome, MatchOption, IsErrOf, List, MatchBool, length};
+ghost use Rattle.std.specs.Prelude.{◌≡◌, ◌≤◌, ◌<◌, ◌*◌, ◌++◌, ◌+◌, ◌∷◌, [], false, IfOk, IfSome, IsErrOf, MatchBool, length};
 ghost use Rattle.recovery.specs.declared.fault.StoreFault.TheVariants.{Unready};
 ghost use Rattle.std.specs.VecDeque.{deque_capacity};
 ghost use Rattle.std.specs.List.{flat_map};
 ghost use Rattle.command_bytes.specs.Text.{command_text, longest};
-ghost use Rattle.station_queue.specs.declared.entry.Entry.{Entry};
 ghost use Rattle.station_queue.specs.Entries.{station_of};
 ghost use Rattle.recovery.specs.Lives.{view_of};
 ghost use Rattle.recovery.specs.Outcomes.{asked};
 ghost use Rattle.flusher.specs.Shared.{commands_in, commands_among};
 ghost use Rattle.flusher.specs.Short.{AreShort};
-ghost use Rattle.flusher.specs.Batches.{AreWithin, FailsByDisk, HasTaken, HoldsImages, IsAnswerOf, ended_by};
+ghost use Rattle.flusher.specs.Batches.{AreWithin, ended_by};
+ghost use Rattle.flusher.specs.Inside.Committing.{HasCommitted, HasTakenBatch, HasTakenOne, KeepsStore};
 
 use crate::committing::Committer;
 use centre_core::Command;
@@ -26,17 +26,18 @@ use std::thread;
 /// The most entries that one round takes.
 pub(crate) const MOST: usize = 64;
 
-// How often the flusher lets other threads run while no further command comes, before it commits a round's commands.
-const TURNS: u32 = 4;
+// How often the flusher lets other threads run while it expects a further command, before it commits a round's commands. It expects
+// one while a session is about to send another, so that commands submitted together are committed together; and while fewer stations
+// have sent theirs than in the round before, since those that were just answered may have more at hand.
+const TURNS: u32 = 64;
 
-// The same while a session is about to send another command, so that commands submitted together are committed together.
-const LONGER: u32 = 64;
-
-/// The commands of a round, each with its copy. There is room for 64.
+/// The commands of a round, each with its copy, and how many stations sent those of the last round that had any. There is room for 64
+/// commands.
 #[derive(Drop)]
 pub struct Room {
     pub(crate) batch: VecDeque<SharedCommand>,
     pub(crate) copies: VecDeque<SharedCommand>,
+    pub(crate) stations: usize,
     pub ghost same: { commands_in copies.items ≡ commands_in batch.items },
     pub ghost few: { length batch.items ≤ 64 },
     pub ghost room: { 64 ≤ deque_capacity batch },
@@ -78,16 +79,13 @@ fn done_after(done: usize, more: bool) -> usize {
     if more { done } else { done.saturating_add(1) }
 }
 
-// How often the flusher lets other threads run before it stops waiting for the round's next entry. It never waits for the first.
-// No more come once each station has sent all that it sends before it is answered.
+// How often the flusher lets other threads run before it stops waiting for the round's next entry. It never waits for the first, nor
+// once as many stations have sent all that they send before they are answered as in the round before.
 fn turns_before(more: bool, done: usize, stations: usize) -> u32 {
-    if more {
-        return LONGER;
-    }
-    if done == 0 || done >= stations {
-        0
-    } else {
+    if more || (0 < done && done < stations) {
         TURNS
+    } else {
+        0
     }
 }
 
@@ -95,8 +93,7 @@ fn turns_before(more: bool, done: usize, stations: usize) -> u32 {
 // still empty then.
 fn take_within<R: Wait>(rt: &R, taker: &mut Taker, turns: u32) -> Option<Entry>
     ensures same { (taker.new.queue ≡ taker.old.queue) × (taker.new.made ≡ taker.old.made) × (taker.new.settled ≡ taker.old.settled) }
-    ensures taken { MatchOption result ((taker.new.taken ≡ taker.old.taken) × (taker.new.empty ≡ true))
-        (λ x. (taker.new.taken ≡ taker.old.taken ++ x ∷ []) × (taker.new.empty ≡ false)) }
+    ensures taken { HasTakenOne result taker.old taker.new }
     ensures station { IfSome result (λ x. (0 < station_of x) × (station_of x ≤ taker.old.made)) }
 {
     for _ in 0..turns {
@@ -108,26 +105,52 @@ fn take_within<R: Wait>(rt: &R, taker: &mut Taker, turns: u32) -> Option<Entry>
     taker.take(rt)
 }
 
-/// Takes entries until there are 64 or the queue is empty. It keeps the commands among them, and notes the stations that
-/// ended.
-pub(crate) fn take_batch<R: Wait>(rt: &R, taker: &mut Taker, room: &mut Room, ended: &mut Vec<bool>)
+impl Room {
+    ghost use Rattle.std.specs.Prelude.{◌≡◌};
+
+    // Notes how many stations sent the commands of this round, if any did.
+    fn note_stations(&mut self, stations: usize)
+        ensures batch { self.new.batch ≡ self.old.batch }
+        ensures copies { self.new.copies ≡ self.old.copies }
+    {
+        if stations > 0 {
+            self.stations = stations;
+        }
+    }
+}
+
+// Takes entries until there are 64 or the queue is empty, and notes the stations that ended. It returns how many stations have sent all that
+// they send before they are answered.
+fn take_entries<R: Wait>(rt: &R, taker: &mut Taker, room: &mut Room, ended: &mut Vec<bool>) -> usize
     requires empty { room.old.batch.items ≡ [] }
     requires flags { taker.old.made ≡ length ended.old.items }
-    ensures taken { (popped : List Entry) × HasTaken taker.old popped taker.new × (commands_among popped ≡ commands_in room.new.batch.items)
-        × (ended.new.items ≡ ended_by popped ended.old.items) }
+    ensures taken { HasTakenBatch taker.old taker.new ended.old.items ended.new.items (commands_in room.new.batch.items) }
     ensures stations { AreWithin taker.old.made (commands_in room.new.batch.items) }
 {
     let mut more = false;
     let mut done = 0;
     for _ in 0..MOST {
-        let turns = turns_before(more, done, ended.len());
+        let turns = turns_before(more, done, room.stations);
         let Some(entry) = take_within(rt, taker, turns) else {
-            return;
+            return done;
         };
         more = has_more(&entry);
         done = done_after(done, more);
         put(entry, room, ended);
     }
+    done
+}
+
+/// Takes entries until there are 64 or the queue is empty. It keeps the commands among them, and notes the stations that
+/// ended.
+pub(crate) fn take_batch<R: Wait>(rt: &R, taker: &mut Taker, room: &mut Room, ended: &mut Vec<bool>)
+    requires empty { room.old.batch.items ≡ [] }
+    requires flags { taker.old.made ≡ length ended.old.items }
+    ensures taken { HasTakenBatch taker.old taker.new ended.old.items ended.new.items (commands_in room.new.batch.items) }
+    ensures stations { AreWithin taker.old.made (commands_in room.new.batch.items) }
+{
+    let stations = take_entries(rt, taker, room, ended);
+    room.note_stations(stations);
 }
 
 // How many bytes the commands take. A record of so few fits after a checkpoint.
@@ -161,11 +184,9 @@ fn commit_with_room<D: Disk>(
     requires sound { committer.old.store.broken ≡ false }
     requires few { length commands.now ≤ 64 }
     requires some { 0 < length commands.now }
-    ensures committed { IsAnswerOf (asked commands.now) (view_of committer.old.store) (view_of committer.new.store)
-        result committer.old.attempts committer.new.attempts }
+    ensures committed { HasCommitted (asked commands.now) committer.old committer.new result }
     ensures short { IfOk result (λ outcomes. AreShort outcomes.items) }
-    ensures images { HoldsImages D.view (view_of committer.old.store) (view_of committer.new.store) }
-    ensures fails { FailsByDisk D.view (view_of committer.old.store) (view_of committer.new.store) }
+    ensures store { KeepsStore D.view (view_of committer.old.store) (view_of committer.new.store) }
 {
     let first = committer.commit(commands);
     if !is_unready(&first) {
@@ -183,11 +204,9 @@ pub(crate) fn commit_batch<D: Disk>(
 ) -> Result<Vec<Outcome<Global>>, StoreFault>
     requires sound { committer.old.store.broken ≡ false }
     requires few { length batch.now.items ≤ 64 }
-    ensures committed { IsAnswerOf (commands_in batch.now.items) (view_of committer.old.store) (view_of committer.new.store)
-        result committer.old.attempts committer.new.attempts }
+    ensures committed { HasCommitted (commands_in batch.now.items) committer.old committer.new result }
     ensures short { IfOk result (λ outcomes. AreShort outcomes.items) }
-    ensures images { HoldsImages D.view (view_of committer.old.store) (view_of committer.new.store) }
-    ensures fails { FailsByDisk D.view (view_of committer.old.store) (view_of committer.new.store) }
+    ensures store { KeepsStore D.view (view_of committer.old.store) (view_of committer.new.store) }
 {
     if batch.is_empty() {
         return Ok(Vec::new(committer.alloc));

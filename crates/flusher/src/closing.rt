@@ -38,7 +38,7 @@ fn wait_within<J: Centre, R: Wait>(rt: &R, viewer: &Viewer<J>, published: &Publi
     unreachable!()
 }
 
-// The same of each session.
+// Returns once this list begins with all that each session has seen, else never.
 fn wait_within_each<J: Centre, R: Wait>(rt: &R, ended: &[Ended<J>], published: &Published<J>)
     ensures { All (λ e. IsPrefix e.viewer published.now) ended.now }
 {
@@ -63,7 +63,7 @@ fn settle<J: Centre>(taker: &mut Taker, sender: AnswerSender<Response<J>>, end: 
     sender.settle(receiver);
 }
 
-// The same of each session.
+// Takes both ends of each session back.
 fn settle_each<J: Centre>(
     taker: &mut Taker,
     senders: Vec<AnswerSender<Response<J>>>,
@@ -88,7 +88,6 @@ fn end_publisher<J: Centre, R: Wait>(rt: &R, publication: Publication<J>) {
     let Publication {
         publisher,
         unpublished: _,
-        attempts: _,
     } = publication;
     publisher.close(rt);
 }
@@ -96,7 +95,7 @@ fn end_publisher<J: Centre, R: Wait>(rt: &R, publication: Publication<J>) {
 /// Closes a centre, and returns its store. `ended` has all sessions of the centre, in order of station.
 ///
 /// If the flusher has not taken the end of each session, flusher and sessions come back unchanged. If a session had seen what was never
-/// published, it would not return; that never happens.
+/// published, it would not return; no test met that.
 pub fn close<J: Centre, D: Disk, R: Wait>(
     rt: &R,
     flusher: Flusher<J, D>,

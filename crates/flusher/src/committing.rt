@@ -1,22 +1,25 @@
 //! The store that commits, and whether its last commit was out of memory.
-ghost use Rattle.std.specs.Prelude.{◌≡◌, ◌↔◌, ◌≤◌, ◌<◌, All, IfOk, IsTrue, IsErrOf, MatchBool, true, false, length};
+ghost use Rattle.std.specs.Prelude.{◌≡◌, ◌↔◌, ◌≤◌, ◌<◌, All, IfOk, IsTrue, IsErrOf, MatchBool, None, Some, true, false, length};
 ghost use Rattle.centre_core.specs.Ranges.{InRange};
 ghost use Rattle.recovery.specs.declared.fault.StoreFault.TheVariants.{NoMemory};
+ghost use Rattle.recovery.specs.Figures.{figures_at};
 ghost use Rattle.recovery.specs.Lives.{view_of};
 ghost use Rattle.recovery.specs.Outcomes.{asked};
-ghost use Rattle.flusher.specs.Attempts.{HasAttempted, IsNext};
+ghost use Rattle.snapshots.specs.Counts.{IsNext};
+ghost use Rattle.flusher.specs.Attempts.{HasAttempted, none_tried};
 ghost use Rattle.flusher.specs.Short.{AreShort};
-ghost use Rattle.flusher.specs.Batches.{FailsByDisk, HasMadeRoom, HasTried, HoldsImages};
+ghost use Rattle.flusher.specs.Batches.{HasMadeRoom, HasTried};
+ghost use Rattle.flusher.specs.Inside.Committing.{KeepsStore};
 
 use crate::moment::Moment;
 use centre_core::laws::{in_range, registers};
 use centre_core::{Command, Register};
 use recovery::{Figures, Outcome, Store, StoreFault};
 use sector_disk::Disk;
+use snapshots::next_count;
 use std::alloc::Global;
 
-/// How many commits, or publications, were tried, and whether the last one was out of memory. After the greatest number it counts from 0
-/// again.
+/// How many commits were tried, and whether the last one was out of memory. After the greatest number it counts from 0 again.
 #[derive(Drop)]
 pub struct Attempts {
     count: u64,
@@ -25,7 +28,9 @@ pub struct Attempts {
 
 impl Attempts {
     /// None was tried.
-    pub(crate) fn none() -> Attempts {
+    pub(crate) fn none() -> Attempts
+        ensures { result ≡ none_tried }
+    {
         Attempts {
             count: 0,
             refused: false,
@@ -38,7 +43,7 @@ impl Attempts {
         ensures exact { result.refused ≡ refused }
     {
         Attempts {
-            count: next(self.count),
+            count: next_count(self.count),
             refused,
         }
     }
@@ -55,7 +60,8 @@ pub struct Committer<D: Disk> {
 impl<D: Disk> Committer<D> {
     /// A store that has not committed yet.
     pub(crate) fn new(alloc: Global, store: Store<Global, D>) -> Committer<D>
-        ensures { result.store ≡ store }
+        ensures store { result.store ≡ store }
+        ensures untried { result.attempts ≡ none_tried }
     {
         Committer {
             store,
@@ -72,7 +78,10 @@ impl<D: Disk> Committer<D> {
     }
 
     /// The figures of the store, or `None` once the disk has failed.
-    pub(crate) fn figures(&self) -> Option<Figures> {
+    pub(crate) fn figures(&self) -> Option<Figures>
+        ensures broken { self.now.store.broken ≡ true → result ≡ None }
+        ensures sound { self.now.store.broken ≡ false → result ≡ Some (figures_at (view_of self.now.store)) }
+    {
         self.store.figures()
     }
 
@@ -94,8 +103,7 @@ impl<D: Disk> Committer<D> {
         ensures tried { HasTried (asked commands.now) (view_of self.old.store) (view_of self.new.store) result }
         ensures attempted { HasAttempted self.old.attempts result self.new.attempts }
         ensures short { IfOk result (λ outcomes. AreShort outcomes.items) }
-        ensures images { HoldsImages D.view (view_of self.old.store) (view_of self.new.store) }
-        ensures fails { FailsByDisk D.view (view_of self.old.store) (view_of self.new.store) }
+        ensures store { KeepsStore D.view (view_of self.old.store) (view_of self.new.store) }
     {
         registers(register_of(&self.store));
         hold_ranges(commands);
@@ -109,8 +117,7 @@ impl<D: Disk> Committer<D> {
         requires sound { self.old.store.broken ≡ false }
         ensures attempts { self.new.attempts ≡ self.old.attempts }
         ensures made { HasMadeRoom (view_of self.old.store) (view_of self.new.store) result }
-        ensures images { HoldsImages D.view (view_of self.old.store) (view_of self.new.store) }
-        ensures fails { FailsByDisk D.view (view_of self.old.store) (view_of self.new.store) }
+        ensures store { KeepsStore D.view (view_of self.old.store) (view_of self.new.store) }
     {
         self.store.checkpoint()
     }
@@ -134,16 +141,6 @@ fn hold_ranges(commands: &[&Command<Global>])
     for command in commands {
         in_range(command);
     }
-}
-
-// The number after this one: 0 after the greatest.
-fn next(count: u64) -> u64
-    ensures { IsNext count result }
-{
-    if count == u64::MAX {
-        return 0;
-    }
-    count + 1
 }
 
 // Whether a commit was out of memory.

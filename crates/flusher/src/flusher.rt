@@ -56,12 +56,7 @@ fn next_round(round: u64) -> u64
 }
 
 impl<J: Centre, D: Disk> Flusher<J, D> {
-    ghost use Rattle.std.specs.Prelude.{◌≡◌, ◌≤◌, true, false};
-    ghost use Rattle.std.specs.declared.alloc.Global.{Global};
-    ghost use Rattle.sector_disk.specs.Disk.{HasFailed};
-    ghost use Rattle.sector_disk.specs.Run.{LeavesOnly};
-    ghost use Rattle.recovery.specs.Outcomes.{OpensToEither};
-    ghost use Rattle.flusher.specs.Lives.{IsSomeCall};
+    ghost use Rattle.flusher.specs.OnDisk.{BreaksByDisk, IsRoundStored};
     ghost use Rattle.flusher.specs.Rounds.{IsRound};
     ghost use Rattle.flusher.specs.Served.{IsSettled};
     ghost use Rattle.flusher.specs.Stored.{IsStoredFor};
@@ -75,18 +70,11 @@ impl<J: Centre, D: Disk> Flusher<J, D> {
         ensures round { IsRound D.view J.base (view_of self.old) (view_of self.new) }
         ensures counted { (self.new.rounds ≡ self.old.rounds + 1) ⊎ ((self.old.rounds ≡ 2 ^ 64 - 1) × (self.new.rounds ≡ self.old.rounds)) }
 
-        // It is a call in the life of the disk.
-        ensures call { IsStoredFor D.view J.base (view_of self.old) → IsSomeCall D.view J.base (view_of self.old) (view_of self.new) }
-
-        // Each image of the disk opens to what is durable. After a stop at any moment of the round it opens to the register
-        // before the round or to the one after it. Only a failure of the disk breaks the store.
-        ensures stored { IsStoredFor D.view J.base (view_of self.old) → IsStoredFor D.view J.base (view_of self.new) }
-        ensures any_moment { IsStoredFor D.view J.base (view_of self.old) → self.old.committer.store.broken ≡ false
-            → LeavesOnly (D.view self.old.committer.store.disk) (D.view self.new.committer.store.disk)
-            (OpensToEither Global self.old.committer.store.register self.new.committer.store.register) }
-        ensures later { (D.view self.old.committer.store.disk).failures ≤ (D.view self.new.committer.store.disk).failures }
-        ensures failed { self.old.committer.store.broken ≡ false → self.new.committer.store.broken ≡ true
-            → HasFailed (D.view self.old.committer.store.disk) (D.view self.new.committer.store.disk) }
+        // It is a call in the life of the disk. Each image of the disk opens to what is durable, or once the disk has failed
+        // perhaps to more. After a stop at any moment of the round, of a sound store, it opens to the register before the round
+        // or to the one after it. Only a failure of the disk breaks the store.
+        ensures stored { IsStoredFor D.view J.base (view_of self.old) → IsRoundStored D.view J.base (view_of self.old) (view_of self.new) }
+        ensures breaks { BreaksByDisk D.view (view_of self.old).store (view_of self.new).store }
     {
         let Flusher {
             taker,

@@ -4,11 +4,13 @@ ghost use mathlib.Core.List.{IsPrefix};
 ghost use Rattle.crossbeam_channel.specs.Ends.{receives_on};
 ghost use Rattle.answers.specs.Views.{received_of};
 ghost use Rattle.flusher.specs.declared.answer.Answer.TheVariants.{NoMemory as OutOfMemory};
-ghost use Rattle.flusher.specs.Heard.{AreHeard, IsHeard, heard};
+ghost use Rattle.flusher.specs.Heard.{AreHeard, HaveAllCome, IsHeard};
 ghost use Rattle.flusher.specs.Submitted.{BearsOutAnswer, Fits, HasReached, HasShortAnswer, IsAlreadyReached, answer_by, reached_by};
+ghost use Rattle.flusher.specs.Inside.Hearing.{all_heard_by, heard_by};
 
 use crate::answer::Answer;
 use crate::decision::Decision;
+use crate::listening::Listening;
 use crate::response::Response;
 use answers::AnswerReceiver;
 use centre_core::{Command, Reply};
@@ -20,20 +22,19 @@ use std::sync::Wait;
 pub(crate) fn hear<J: Centre, R: Wait>(
     rt: &R,
     receiver: &mut AnswerReceiver<Response<J>>,
+    listening: &mut Listening<J>,
     viewer: &mut Viewer<J>,
-    base: u64,
     reached: &mut u64,
     command: &Command<Global>,
 ) -> Answer<J>
-    requires base { base ≡ J.base.count }
     requires within { reached.old ≤ length viewer.old }
-    ensures heard { IsHeard J.base command.now (heard (received_of receiver.old.pass) viewer.old reached.old)
-        (heard (received_of receiver.new.pass) viewer.new reached.new) result }
+    ensures heard { IsHeard J.base command.now (heard_by receiver.old viewer.old reached.old) (heard_by receiver.new viewer.new reached.new) result }
     ensures short { HasShortAnswer result }
+    ensures all { HaveAllCome 1 listening.old listening.new (received_of receiver.old.pass) (received_of receiver.new.pass) }
     ensures same { receives_on receiver.new.channel ≡ receives_on receiver.old.channel }
 {
-    match receiver.receive(rt) {
-        Some(response) => take_in(viewer, base, reached, command, response),
+    match listening.receive(rt, receiver) {
+        Some(response) => take_in(viewer, listening, reached, command, response),
         None => Answer::Closed,
     }
 }
@@ -42,16 +43,15 @@ pub(crate) fn hear<J: Centre, R: Wait>(
 pub(crate) fn hear_all<J: Centre, R: Wait>(
     rt: &R,
     receiver: &mut AnswerReceiver<Response<J>>,
+    listening: &mut Listening<J>,
     viewer: &mut Viewer<J>,
-    base: u64,
     commands: &[Command<Global>],
     answers: &mut Vec<Answer<J>>,
 )
-    requires base { base ≡ J.base.count }
     requires none { answers.old.items ≡ [] }
     requires room { length commands.now ≤ vec_capacity answers.old }
-    ensures heard { AreHeard J.base commands.now (heard (received_of receiver.old.pass) viewer.old (length viewer.old))
-        (heard (received_of receiver.new.pass) viewer.new (length viewer.new)) answers.new.items }
+    ensures heard { AreHeard J.base commands.now (all_heard_by receiver.old viewer.old) (all_heard_by receiver.new viewer.new) answers.new.items }
+    ensures all { HaveAllCome (length commands.now) listening.old listening.new (received_of receiver.old.pass) (received_of receiver.new.pass) }
     ensures count { vec_len answers.new ≡ length commands.now }
     ensures short { All HasShortAnswer answers.new.items }
     ensures room { vec_capacity answers.new ≡ vec_capacity answers.old }
@@ -59,7 +59,7 @@ pub(crate) fn hear_all<J: Centre, R: Wait>(
 {
     let mut reached = viewer.count();
     for k in 0..commands.len() {
-        let answer = hear(rt, receiver, viewer, base, &mut reached, &commands[k]);
+        let answer = hear(rt, receiver, listening, viewer, &mut reached, &commands[k]);
         answers.push_reserved(answer);
     }
 }
@@ -81,12 +81,11 @@ pub(crate) fn refuse_all<J: Centre>(answers: &mut Vec<Answer<J>>, count: usize)
 // reached. Then its list is seen, and an accepted command reached.
 fn take_in<J: Centre>(
     viewer: &mut Viewer<J>,
-    base: u64,
+    listening: &Listening<J>,
     reached: &mut u64,
     command: &Command<Global>,
     response: Response<J>,
 ) -> Answer<J>
-    requires base { base ≡ J.base.count }
     requires within { reached.old ≤ length viewer.old }
     ensures borne_out { BearsOutAnswer J.base command.now viewer.old reached.old viewer.new result }
     ensures seen { IsPrefix viewer.old viewer.new }
@@ -106,6 +105,7 @@ fn take_in<J: Centre>(
     if !viewer.is_within(&published) {
         return Answer::Closed;
     }
+    let base = listening.base();
     if is_already_reached(&decision, base, *reached) {
         return Answer::Closed;
     }

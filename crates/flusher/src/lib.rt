@@ -11,6 +11,7 @@ mod committing;
 mod decision;
 mod flusher;
 mod hearing;
+mod listening;
 pub mod lives;
 mod moment;
 mod opening;

@@ -30,7 +30,7 @@ impl Moment {
         }
     }
 
-    // The same moment.
+    // A copy of this moment.
     pub(crate) fn copy(&self) -> Moment
         ensures { result.tick ≡ self.now.tick }
     {

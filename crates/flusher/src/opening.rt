@@ -6,25 +6,26 @@ ghost use Rattle.station_queue.specs.Entries.{share_of};
 ghost use Rattle.recovery.specs.Lives.{view_of as store_of};
 ghost use Rattle.flusher.specs.declared.opening.CentreFault.TheVariants.{NoMemory, NoPlace};
 ghost use Rattle.flusher.specs.Opened.{AreNewSessions, AreOpened, IsNewFlusher, IsNewSession, has_place};
+ghost use Rattle.flusher.specs.Attempts.{none_tried, tries};
 ghost use Rattle.flusher.specs.Served.{IsSettled};
 ghost use Rattle.flusher.specs.View.{view_of};
 
 use crate::batch::{MOST, Room};
-use crate::committing::{Attempts, Committer, register_of};
+use crate::committing::{Committer, register_of};
 use crate::flusher::Flusher;
+use crate::listening::Listening;
 use crate::publishing::Publication;
 use crate::response::Response;
-use crate::session::{Base, Session};
+use crate::session::Session;
 use answers::{AnswerSender, open_channel};
+use base::TryCopy;
 use centre_core::Register;
-use prefix_tree::TryCopy;
 use recovery::Store;
 use sector_disk::Disk;
 use snapshots::{Centre, NewLog, Publisher, Viewer, make};
 use station_queue::{Sender, SharedCommand, Taker, open_queue, share_of};
 use std::alloc::{AllocError, Global};
 use std::collections::VecDeque;
-use std::marker::PhantomData;
 use std::sync::Wait;
 use thiserror::Error;
 
@@ -79,15 +80,11 @@ fn open_session<J: Centre>(
     ensures share { IfOk result (λ r. r.1.share ≡ share) }
 {
     let (answers, receiver) = open_channel(alloc, share)?;
-    let base = Base {
-        count: base,
-        of: PhantomData,
-    };
     let session = Session {
         sender,
         receiver,
         viewer,
-        base,
+        listening: Listening::new(base),
         share,
         alloc,
     };
@@ -156,7 +153,11 @@ fn open_buffers(alloc: Global, stations: usize) -> Result<Buffers, AllocError>
     let ended = vec![in alloc; false; stations]?;
     Ok(Buffers {
         unpublished,
-        room: Room { batch, copies },
+        room: Room {
+            batch,
+            copies,
+            stations: 0,
+        },
         ended,
     })
 }
@@ -172,7 +173,7 @@ fn open_ends<J: Centre, R: Wait>(
 ) -> Result<(Publisher<J>, Ends<J>), AllocError>
     requires centre { (log.seen.book ≡ J.book) × (register.now ≡ J.base) }
     requires place { (0 < sessions) × (sessions ≤ 64) }
-    ensures publisher { IfOk result (λ r. (r.0.published ≡ []) × (r.0.appended ≡ [])) }
+    ensures publisher { IfOk result (λ r. (r.0.published ≡ []) × (r.0.appended ≡ []) × (r.0.refusals ≡ 0)) }
     ensures ends { IfOk result (λ r. AreOpened sessions r.1.taker r.1.senders.items r.1.sessions.items) }
 {
     let base = register.count();
@@ -207,6 +208,7 @@ pub fn open_centre<J: Centre, D: Disk, R: Wait>(
     ensures flusher { IfOk result (λ r. IsNewFlusher sessions (store_of store) (view_of r.0)) }
     ensures settled { IfOk result (λ r. IsSettled J.base (view_of r.0)) }
     ensures uncounted { IfOk result (λ r. r.0.rounds ≡ 0) }
+    ensures untried { IfOk result (λ r. (view_of r.0).attempts ≡ tries none_tried 0) }
     ensures sessions { IfOk result (λ r. AreNewSessions (view_of r.0).taker.queue (view_of r.0).senders r.1.items) }
 
     // Each has the same share of the queue's places.
@@ -240,7 +242,6 @@ pub fn open_centre<J: Centre, D: Disk, R: Wait>(
     let publication = Publication {
         publisher,
         unpublished,
-        attempts: Attempts::none(),
     };
     let flusher = Flusher {
         taker,

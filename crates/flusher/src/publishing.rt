@@ -1,11 +1,12 @@
 //! Publishing what is durable.
-ghost use Rattle.std.specs.Prelude.{◌≡◌, ◌≤◌, ◌++◌, [], length, MatchBool};
+ghost use Rattle.std.specs.Prelude.{◌≡◌, ◌≤◌, [], length, MatchBool};
 ghost use Rattle.std.specs.VecDeque.{deque_capacity};
 ghost use Rattle.centre_core.specs.Histories.{IsHistory};
+ghost use Rattle.flusher.specs.Attempts.{HasBeenRefused};
 ghost use Rattle.flusher.specs.Shared.{commands_in};
 ghost use Rattle.flusher.specs.Batches.{accepted_by};
+ghost use Rattle.flusher.specs.Inside.Lists.{IsAllPublished, all_of};
 
-use crate::committing::Attempts;
 use crate::moment::Moment;
 use centre_core::Reply;
 use recovery::Outcome;
@@ -15,11 +16,10 @@ use std::alloc::Global;
 use std::collections::VecDeque;
 use std::sync::Wait;
 
-/// The publisher, the durable commands that it does not have yet, and the count of its publications. There is room for 64 of these commands.
+/// The publisher, and the durable commands that it does not have yet. There is room for 64 of these.
 pub struct Publication<J: Centre> {
     pub(crate) publisher: Publisher<J>,
     pub(crate) unpublished: VecDeque<SharedCommand>,
-    pub(crate) attempts: Attempts,
     pub ghost room: { 64 ≤ deque_capacity unpublished },
     pub ghost within: { length publisher.published ≤ length publisher.appended },
 }
@@ -38,16 +38,16 @@ pub(crate) struct Shown<J: Centre> {
     pub(crate) all: bool,
 }
 
-// Appends what is durable and publishes it. False if memory ran out; then nothing new is published.
+// Appends what is durable and publishes it. False if the publisher was out of memory; then nothing new is published.
 fn publish_all<J: Centre, R: Wait>(
     rt: &R,
     publisher: &mut Publisher<J>,
     unpublished: &mut VecDeque<SharedCommand>,
 ) -> bool
-    requires { IsHistory J.base (publisher.old.appended ++ commands_in unpublished.old.items) }
-    ensures durable { publisher.new.appended ++ commands_in unpublished.new.items ≡ publisher.old.appended ++ commands_in unpublished.old.items }
-    ensures published { MatchBool result ((publisher.new.published ≡ publisher.new.appended) × (unpublished.new.items ≡ []))
-        (publisher.new.published ≡ publisher.old.published) }
+    requires { IsHistory J.base (all_of publisher.old unpublished.old.items) }
+    ensures durable { all_of publisher.new unpublished.new.items ≡ all_of publisher.old unpublished.old.items }
+    ensures published { MatchBool result (IsAllPublished publisher.new unpublished.new.items) (publisher.new.published ≡ publisher.old.published) }
+    ensures counted { MatchBool result (publisher.new.refusals ≡ publisher.old.refusals) (HasBeenRefused publisher.old.refusals publisher.new.refusals) }
     ensures grows { length publisher.old.appended ≤ length publisher.new.appended }
     ensures room { deque_capacity unpublished.new ≡ deque_capacity unpublished.old }
 {
@@ -61,34 +61,31 @@ fn publish_all<J: Centre, R: Wait>(
 }
 
 impl<J: Centre> Publication<J> {
-    ghost use Rattle.std.specs.Prelude.{◌≡◌, ◌≤◌, ◌<◌, [], true, false, not, length, MatchBool};
+    ghost use Rattle.std.specs.Prelude.{◌≡◌, ◌≤◌, [], true, false, length, MatchBool};
     ghost use Rattle.std.specs.VecDeque.{deque_capacity};
     ghost use Rattle.centre_core.specs.Histories.{IsHistory};
     ghost use Rattle.flusher.specs.Shared.{commands_in};
-    ghost use Rattle.flusher.specs.Attempts.{HasFailedNext, IsAtMostNext, IsNext, WasOutOfMemory};
+    ghost use Rattle.flusher.specs.Attempts.{HasBeenRefused};
     ghost use Rattle.flusher.specs.Batches.{accepted_by};
     ghost use Rattle.flusher.specs.View.{durable_of};
+    ghost use Rattle.flusher.specs.Inside.Publishing.{HasShown, IsCaughtUp};
 
     // Whether all that is durable is published.
     fn is_caught_up(&self) -> bool
-        ensures { MatchBool result ((self.now.publisher.published ≡ self.now.publisher.appended) × (self.now.unpublished.items ≡ []))
-            (self.now.publisher.published ≡ durable_of self.now → ⊥) }
+        ensures { MatchBool result (IsCaughtUp self.now) (self.now.publisher.published ≡ durable_of self.now → ⊥) }
     {
         self.unpublished.is_empty() && self.publisher.is_caught_up()
     }
 
-    // Publishes all that is durable, and counts it. False if memory ran out; then nothing new is published.
+    // Publishes all that is durable. False if the publisher was out of memory; then nothing new is published.
     fn publish_all<R: Wait>(&mut self, rt: &R) -> bool
         requires { IsHistory J.base (durable_of self.old) }
         ensures durable { durable_of self.new ≡ durable_of self.old }
-        ensures published { MatchBool result ((self.new.publisher.published ≡ self.new.publisher.appended) × (self.new.unpublished.items ≡ []))
-            (self.new.publisher.published ≡ self.old.publisher.published) }
-        ensures counted { IsNext self.old.attempts.count self.new.attempts.count }
-        ensures exact { self.new.attempts.refused ≡ not result }
+        ensures published { MatchBool result (IsCaughtUp self.new) (self.new.publisher.published ≡ self.old.publisher.published) }
+        ensures counted { MatchBool result (self.new.publisher.refusals ≡ self.old.publisher.refusals)
+            (HasBeenRefused self.old.publisher.refusals self.new.publisher.refusals) }
     {
-        let done = publish_all(rt, &mut self.publisher, &mut self.unpublished);
-        self.attempts = self.attempts.after(!done);
-        done
+        publish_all(rt, &mut self.publisher, &mut self.unpublished)
     }
 
     /// Publishes what an earlier round left, unless the disk has failed. It returns whether all that is durable is published
@@ -96,12 +93,10 @@ impl<J: Centre> Publication<J> {
     pub(crate) fn catch_up<R: Wait>(&mut self, rt: &R, sound: bool) -> bool
         requires { IsHistory J.base (durable_of self.old) }
         ensures durable { durable_of self.new ≡ durable_of self.old }
-        ensures level { MatchBool result
-            ((self.new.publisher.published ≡ self.new.publisher.appended) × (self.new.unpublished.items ≡ []) × (sound ≡ true))
-            (self.new.publisher.published ≡ self.old.publisher.published) }
+        ensures level { MatchBool result (IsCaughtUp self.new × (sound ≡ true)) (self.new.publisher.published ≡ self.old.publisher.published) }
         ensures lagging { result ≡ false → sound ≡ true → self.old.publisher.published ≡ durable_of self.old → ⊥ }
-        ensures refused { result ≡ false → sound ≡ true → WasOutOfMemory self.old.attempts self.new.attempts }
-        ensures tried { IsAtMostNext self.old.attempts self.new.attempts }
+        ensures refused { result ≡ false → sound ≡ true → HasBeenRefused self.old.publisher.refusals self.new.publisher.refusals }
+        ensures unrefused { result ≡ true → self.new.publisher.refusals ≡ self.old.publisher.refusals }
     {
         if !sound {
             return false;
@@ -121,7 +116,6 @@ impl<J: Centre> Publication<J> {
         requires empty { self.old.unpublished.items ≡ [] }
         requires few { length copies.old.items ≤ 64 }
         ensures publisher { self.new.publisher ≡ self.old.publisher }
-        ensures attempts { self.new.attempts ≡ self.old.attempts }
         ensures kept { commands_in self.new.unpublished.items ≡ accepted_by (commands_in copies.old.items) outcomes.now }
         ensures done { copies.new.items ≡ [] }
         ensures room { deque_capacity copies.new ≡ deque_capacity copies.old }
@@ -144,9 +138,8 @@ impl<J: Centre> Publication<J> {
         requires history { IsHistory J.base (durable_of self.old) }
         requires level { self.old.publisher.published ≡ self.old.publisher.appended }
         ensures durable { durable_of self.new ≡ durable_of self.old }
-        ensures published { MatchBool result.all (self.new.publisher.published ≡ durable_of self.new)
-            ((self.new.publisher.published ≡ self.old.publisher.published) × (0 < length (commands_in self.old.unpublished.items))) }
-        ensures refused { result.all ≡ false → HasFailedNext self.old.attempts self.new.attempts }
+        ensures published { HasShown result.all self.old self.new }
+        ensures refused { result.all ≡ false → HasBeenRefused self.old.publisher.refusals self.new.publisher.refusals }
         ensures stamp { (result.stamp.published ≡ self.new.publisher.published) × (result.stamp.moment ≡ moment) }
     {
         let all = self.unpublished.is_empty() || self.publish_all(rt);

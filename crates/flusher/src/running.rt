@@ -1,12 +1,10 @@
 //! Rounds, until each session has ended.
-ghost use Rattle.std.specs.Prelude.{◌≡◌, ◌≤◌, ◌↔◌, All, IsTrue, true, false};
-ghost use Rattle.sector_disk.specs.Disk.{HasFailed};
-ghost use Rattle.sector_disk.specs.Run.{LeavesOnly};
+ghost use Rattle.std.specs.Prelude.{◌≤◌, ◌↔◌, All, IsTrue};
 ghost use Rattle.flusher.specs.View.{view_of};
 ghost use Rattle.flusher.specs.Served.{IsSettled};
-ghost use Rattle.flusher.specs.Stored.{IsStoredFor, OpensBetween};
-ghost use Rattle.flusher.specs.Lasting.{AreLasting};
-ghost use Rattle.flusher.specs.Runs.{AreRounds, HasSameEnds, HasTakenEnds};
+ghost use Rattle.flusher.specs.Stored.{IsStoredFor};
+ghost use Rattle.flusher.specs.OnDisk.{AreRoundsStored, BreaksByDisk};
+ghost use Rattle.flusher.specs.Runs.{AreRounds, HasSameEnds, HasStopped, HasTakenEnds};
 
 use crate::flusher::{Flusher, Gate};
 use sector_disk::Disk;
@@ -27,20 +25,15 @@ impl<J: Centre, D: Disk> Flusher<J, D> {
         ensures settled { IsSettled J.base (view_of self.new) }
         ensures rounds { AreRounds D.view J.base (view_of self.old) (view_of self.new) }
 
-        // Each image of the disk opens to what is durable. After a stop at any moment of the run it opens to what was durable
-        // at some moment of the run, and to no less than was durable at the end of the round before. Only a failure of the disk
-        // breaks the store.
-        ensures stored { IsStoredFor D.view J.base (view_of self.old) → IsStoredFor D.view J.base (view_of self.new) }
-        ensures any_moment { IsStoredFor D.view J.base (view_of self.old) → self.old.committer.store.broken ≡ false
-            → LeavesOnly (D.view self.old.committer.store.disk) (D.view self.new.committer.store.disk)
-            (OpensBetween J.base (view_of self.old) (view_of self.new)) }
-        ensures lasting { IsStoredFor D.view J.base (view_of self.old) → AreLasting D.view J.base (view_of self.old) (view_of self.new) }
-        ensures later { (D.view self.old.committer.store.disk).failures ≤ (D.view self.new.committer.store.disk).failures }
-        ensures failed { self.old.committer.store.broken ≡ false → self.new.committer.store.broken ≡ true
-            → HasFailed (D.view self.old.committer.store.disk) (D.view self.new.committer.store.disk) }
+        // Each image of the disk opens to what is durable, or once the disk has failed perhaps to more. After a stop at any moment
+        // of the run it opens to a list between what was durable before and after it, and to no less than was durable at the end
+        // of the round before. Only a failure of the disk breaks the store.
+        ensures stored { IsStoredFor D.view J.base (view_of self.old) → AreRoundsStored D.view J.base (view_of self.old) (view_of self.new) }
+        ensures breaks { BreaksByDisk D.view (view_of self.old).store (view_of self.new).store }
 
-        // It ends where the end of each session was taken, with the queue and the channels that it had.
+        // It ends as soon as the end of each session was taken, with the queue and the channels that it had.
         ensures ended { HasTakenEnds (view_of self.new) }
+        ensures at_once { HasStopped D.view J.base (view_of self.old) (view_of self.new) }
         ensures same { HasSameEnds (view_of self.old) (view_of self.new) }
         ensures counted { self.old.rounds ≤ self.new.rounds }
     {

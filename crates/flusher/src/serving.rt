@@ -1,22 +1,15 @@
 //! How a batch is served.
-ghost use Rattle.std.specs.Prelude.{◌≡◌, [], true, false, List, length};
-ghost use Rattle.std.specs.declared.alloc.Global.{Global};
-ghost use mathlib.Core.List.{IsPrefix};
-ghost use Rattle.centre_core.specs.Asked.{Asked};
+ghost use Rattle.std.specs.Prelude.{◌≡◌, [], length};
 ghost use Rattle.std.specs.VecDeque.{deque_capacity};
-ghost use Rattle.centre_core.specs.History.{after};
-ghost use Rattle.centre_core.specs.Histories.{IsHistory};
 ghost use Rattle.recovery.specs.Lives.{view_of as store_view};
-ghost use Rattle.recovery.specs.Outcomes.{IsAnswered};
 ghost use Rattle.flusher.specs.Shared.{commands_in};
-ghost use Rattle.flusher.specs.Short.{AreShort};
-ghost use Rattle.flusher.specs.declared.committing.Attempts.{Attempts};
-ghost use Rattle.flusher.specs.Attempts.{IsAtMostNext, tries};
-ghost use Rattle.flusher.specs.Stages.{decision_for_all, sent_to_all};
+ghost use Rattle.flusher.specs.Stages.{decision_for_all};
 ghost use Rattle.flusher.specs.Answerings.{HaveAnswered};
-ghost use Rattle.flusher.specs.Batches.{AreWithin, FailsByDisk, HasBroken, HoldsImages, accepted_by};
-ghost use Rattle.flusher.specs.Served.{HasServed, HavePublished, decision_by};
-ghost use Rattle.flusher.specs.View.{durable_of, progress, progress_by};
+ghost use Rattle.flusher.specs.Batches.{AreWithin};
+ghost use Rattle.flusher.specs.Served.{decision_by};
+ghost use Rattle.flusher.specs.View.{durable_of};
+ghost use Rattle.flusher.specs.Inside.Committing.{KeepsStore};
+ghost use Rattle.flusher.specs.Inside.Serving.{HasServedFrom, HavePublishedFrom, IsAfterCommit, IsReady, IsToPublish, answers_alike};
 
 use crate::answering::{answer_all, answer_all_alike};
 use crate::batch::{Room, commit_batch};
@@ -48,16 +41,9 @@ fn publish_and_answer<J: Centre, R: Wait>(
     batch: &mut VecDeque<SharedCommand>,
     committed: Committed,
 )
-    requires level { publication.old.publisher.published ≡ publication.old.publisher.appended }
-    requires history { IsHistory J.base publication.old.publisher.appended }
-    requires answered { IsAnswered (after J.base publication.old.publisher.appended) (commands_in batch.old.items)
-        (after J.base (durable_of publication.old)) committed.outcomes.items }
-    requires short { AreShort committed.outcomes.items }
-    requires kept { commands_in publication.old.unpublished.items ≡ accepted_by (commands_in batch.old.items) committed.outcomes.items }
+    requires committed { IsToPublish J.base publication.old (commands_in batch.old.items) committed.outcomes.items }
     requires stations { AreWithin (length senders.old.items) (commands_in batch.old.items) }
-    ensures published { (was : Attempts) → IsAtMostNext was publication.old.attempts
-        → HavePublished committed.moment.tick was publication.new.attempts publication.old.publisher.appended (durable_of publication.new)
-        publication.new.publisher.published (commands_in batch.old.items) committed.outcomes.items senders.old.items senders.new.items }
+    ensures published { HavePublishedFrom publication.old publication.new (commands_in batch.old.items) committed senders.old.items senders.new.items }
     ensures durable { durable_of publication.new ≡ durable_of publication.old }
     ensures done { batch.new.items ≡ [] }
     ensures room { deque_capacity batch.new ≡ deque_capacity batch.old }
@@ -76,8 +62,7 @@ pub(crate) fn refuse<J: Centre, R: Wait>(
     room: &mut Room,
 )
     requires stations { AreWithin (length senders.old.items) (commands_in room.old.batch.items) }
-    ensures answered { HaveAnswered senders.old.items
-        (sent_to_all stamp.now.moment.tick stamp.now.published (decision_for_all fault) (commands_in room.old.batch.items)) senders.new.items }
+    ensures answered { HaveAnswered senders.old.items (answers_alike stamp.now fault (commands_in room.old.batch.items)) senders.new.items }
     ensures done { room.new.batch.items ≡ [] }
 {
     room.copies.clear();
@@ -102,24 +87,11 @@ pub(crate) fn commit_and_answer<J: Centre, D: Disk, R: Wait>(
     senders: &mut Vec<AnswerSender<Response<J>>>,
     room: &mut Room,
 )
-    requires level { publication.old.publisher.published ≡ publication.old.publisher.appended }
-    requires all { publication.old.unpublished.items ≡ [] }
-    requires history { IsHistory J.base (durable_of publication.old) }
-    requires made { committer.old.store.register ≡ after J.base (durable_of publication.old) }
-    requires sound { committer.old.store.broken ≡ false }
+    requires ready { IsReady J.base publication.old committer.old }
     requires stations { AreWithin (length senders.old.items) (commands_in room.old.batch.items) }
-    ensures served { (seen : List (Asked Global)) (was : Attempts) → IsAtMostNext was publication.old.attempts
-        → HasServed J.base (D.view committer.new.store.disk).moment
-        (progress seen (durable_of publication.old) (store_view committer.old.store) (tries committer.old.attempts was))
-        (progress_by publication.new committer.new) (commands_in room.old.batch.items) senders.old.items senders.new.items }
-    ensures prefix { IsPrefix publication.new.publisher.published (durable_of publication.new) }
-    ensures history { IsHistory J.base (durable_of publication.new) }
-    ensures made { committer.new.store.broken ≡ false → committer.new.store.register ≡ after J.base (durable_of publication.new) }
-    ensures under_way { committer.new.store.broken ≡ true
-        → HasBroken (commands_in room.old.batch.items) (store_view committer.old.store) (store_view committer.new.store)
-        × (durable_of publication.new ≡ durable_of publication.old) }
-    ensures images { HoldsImages D.view (store_view committer.old.store) (store_view committer.new.store) }
-    ensures fails { FailsByDisk D.view (store_view committer.old.store) (store_view committer.new.store) }
+    ensures served { HasServedFrom publication.old committer.old publication.new committer.new room.old D.view J.base senders.old senders.new }
+    ensures durable { IsAfterCommit publication.old committer.old publication.new committer.new room.old J.base }
+    ensures store { KeepsStore D.view (store_view committer.old.store) (store_view committer.new.store) }
     ensures done { room.new.batch.items ≡ [] }
 {
     match commit_batch(committer, &room.batch) {

@@ -1,9 +1,11 @@
 //! A station's session with a centre.
-ghost use Rattle.std.specs.Prelude.{◌≡◌, ◌≤◌, true};
+ghost use Rattle.std.specs.Prelude.{◌≡◌, ◌≤◌, true, false, length};
+ghost use Rattle.answers.specs.Views.{received_of};
 ghost use Rattle.flusher.specs.Submitted.{are_submitted, is_ended};
 
 use crate::answer::Answer;
 use crate::hearing::{hear, hear_all, refuse_all};
+use crate::listening::Listening;
 use crate::putting::{put_all, request_for};
 use crate::response::Response;
 use answers::AnswerReceiver;
@@ -13,7 +15,6 @@ use registration::Station;
 use snapshots::{Centre, Published, ReadFault, Viewer};
 use station_queue::{Entry, Sender};
 use std::alloc::{Allocator, Global};
-use std::marker::{Model, PhantomData};
 use std::sync::Wait;
 
 /// A station's session with a centre: it submits commands of that station, and reads the register. End it by `finish`.
@@ -22,12 +23,14 @@ pub struct Session<J: Centre> {
     pub(crate) sender: Sender,
     pub(crate) receiver: AnswerReceiver<Response<J>>,
     pub(crate) viewer: Viewer<J>,
-    pub(crate) base: Base<J>,
+    pub(crate) listening: Listening<J>,
     /// How many commands it may have under way at a time.
     pub(crate) share: usize,
     pub(crate) alloc: Global,
     pub ghost submitted: { are_submitted sender.sent ≡ true },
     pub ghost few: { (1 ≤ share) × (share ≤ 64) },
+    // As many answers were received as commands were put into the queue, unless the flusher was found gone.
+    pub ghost answered: { listening ≡ false → length sender.sent ≡ length (received_of receiver.pass) },
 }
 
 /// A session that has ended. `close` takes it back.
@@ -37,31 +40,6 @@ pub struct Ended<J: Centre> {
     pub(crate) receiver: AnswerReceiver<Response<J>>,
     pub(crate) viewer: Viewer<J>,
     pub ghost ended: { is_ended sender.sent ≡ true },
-}
-
-// How many commands the register had accepted when the centre was opened.
-#[derive(Drop)]
-pub struct Base<J: Centre> {
-    pub(crate) count: u64,
-    pub(crate) of: PhantomData<J>,
-}
-
-impl<J: Centre> Model for Base<J> {
-    ghost use Rattle.std.specs.Prelude.{◌≡◌, ℕ};
-
-    ghost Value = { ℕ };
-
-    ghost view = { λ b. b.count };
-
-    ghost invariant = { λ b. b.count ≡ J.base.count };
-}
-
-impl<J: Centre> Base<J> {
-    fn count(&self) -> u64
-        ensures { result ≡ J.base.count }
-    {
-        self.count
-    }
 }
 
 impl<J: Centre> Session<J> {
@@ -75,8 +53,9 @@ impl<J: Centre> Session<J> {
     ghost use Rattle.station_queue.specs.Ends.{sending};
     ghost use Rattle.station_queue.specs.declared.entry.Entry.TheVariants as entry;
     ghost use Rattle.flusher.specs.Closed.{HasFinished};
+    ghost use Rattle.flusher.specs.Heard.{ArePutFirst};
     ghost use Rattle.flusher.specs.Submitted.{AreSubmissions, HasShortAnswer, IsSubmission};
-    ghost use Rattle.flusher.specs.Sessions.{IsSameSession, view_of};
+    ghost use Rattle.flusher.specs.Sessions.{HasOnlyRead, IsSameSession, view_of};
 
     /// Its station.
     pub fn station(&self) -> Station
@@ -107,7 +86,7 @@ impl<J: Centre> Session<J> {
         // The PDU that it gives has at most 2,048 bits.
         ensures short { HasShortAnswer result }
 
-        // It stays the session of its station.
+        // It stays the session of its station, with its share.
         ensures same { IsSameSession self.old self.new }
     {
         let Some((request, own)) = request_for(self.alloc, command) else {
@@ -115,12 +94,11 @@ impl<J: Centre> Session<J> {
         };
         self.sender.send(rt, Entry::Submitted(request));
         let mut reached = self.viewer.count();
-        let base = self.base.count();
         hear(
             rt,
             &mut self.receiver,
+            &mut self.listening,
             &mut self.viewer,
-            base,
             &mut reached,
             &own,
         )
@@ -139,23 +117,23 @@ impl<J: Centre> Session<J> {
         requires few { length commands.now ≤ self.old.share }
         requires room { length commands.now ≤ vec_capacity answers.old }
 
-        // Each is submitted and answered after the one before it.
+        // Each is submitted and answered after the one before it. A prefix of them is put into the queue, and memory ran out for the others.
         ensures submitted { AreSubmissions J.base commands.now (view_of self.old) (view_of self.new) answers.new.items }
+        ensures put { ArePutFirst commands.now self.old.sender.sent self.new.sender.sent answers.new.items }
         ensures seen { IsPrefix self.old.viewer self.new.viewer }
         ensures short { All HasShortAnswer answers.new.items }
         ensures room { vec_capacity answers.new ≡ vec_capacity answers.old }
 
-        // It stays the session of its station.
+        // It stays the session of its station, with its share.
         ensures same { IsSameSession self.old self.new }
     {
         answers.clear();
         let put = put_all(rt, self.alloc, &mut self.sender, commands);
-        let base = self.base.count();
         hear_all(
             rt,
             &mut self.receiver,
+            &mut self.listening,
             &mut self.viewer,
-            base,
             &commands[..put],
             answers,
         );
@@ -171,13 +149,12 @@ impl<J: Centre> Session<J> {
         query: &Query,
     ) -> Result<(QueryAnswer<C>, u64), ReadFault>
         ensures answer { IfOk result (λ r. (r.0 ≡ answer_to (after J.base self.new.viewer) query.now) × (r.1 ≡ length self.new.viewer)) }
-        ensures later { IsPrefix self.old.viewer self.new.viewer }
         ensures history { OnOk result (IsHistory J.base self.new.viewer) }
         ensures memory { IsErrOf result NoMemory → AsksForList query.now }
         ensures closed { IsErrOf result Closed → self.new.viewer ≡ self.old.viewer }
 
-        // Nothing is sent or received.
-        ensures same { (self.new.sender ≡ self.old.sender) × (self.new.receiver ≡ self.old.receiver) }
+        // Nothing is sent or received, and what was seen stays seen.
+        ensures reads { HasOnlyRead self.old self.new }
     {
         self.viewer.read(alloc, query)
     }
@@ -191,15 +168,14 @@ impl<J: Centre> Session<J> {
         out: &mut Vec<u8, C>,
     ) -> Result<(), ReadFault>
         ensures listed { OnOk result (out.new.items ≡ out.old.items ++ listing_text (after J.base self.new.viewer) listing.now) }
-        ensures later { IsPrefix self.old.viewer self.new.viewer }
         ensures history { OnOk result (IsHistory J.base self.new.viewer) }
         ensures memory { IsErrOf result NoMemory → LacksRoom (vec_len out.old) (vec_capacity out.old) (after J.base self.new.viewer) listing.now }
         ensures closed { IsErrOf result Closed → self.new.viewer ≡ self.old.viewer }
         ensures unlisted { OnErr result (out.new.items ≡ out.old.items) }
         ensures capacity { vec_capacity out.old ≤ vec_capacity out.new }
 
-        // Nothing is sent or received.
-        ensures same { (self.new.sender ≡ self.old.sender) × (self.new.receiver ≡ self.old.receiver) }
+        // Nothing is sent or received, and what was seen stays seen.
+        ensures reads { HasOnlyRead self.old self.new }
     {
         self.viewer.list(listing, out)
     }
@@ -207,11 +183,10 @@ impl<J: Centre> Session<J> {
     /// From now on what it reads begins with this list too. It never waits.
     pub fn learn(&mut self, published: &Published<J>)
         ensures one { (self.new.viewer ≡ self.old.viewer) ⊎ (self.new.viewer ≡ published.now) }
-        ensures seen { IsPrefix self.old.viewer self.new.viewer }
         ensures learnt { IsPrefix published.now self.new.viewer }
 
-        // Nothing is sent or received.
-        ensures same { (self.new.sender ≡ self.old.sender) × (self.new.receiver ≡ self.old.receiver) }
+        // Nothing is sent or received, and what was seen stays seen.
+        ensures reads { HasOnlyRead self.old self.new }
     {
         self.viewer.learn(published);
     }
@@ -226,7 +201,7 @@ impl<J: Centre> Session<J> {
             mut sender,
             receiver,
             viewer,
-            base: _,
+            listening: _,
             share: _,
             alloc: _,
         } = self;

@@ -2,6 +2,7 @@
 use Rattle.std.specs.Prelude.{Some, slice_get}
 use Rattle.std.specs.List.{AllZip}
 use Rattle.std.proofs.Common.{◌≡◌, ℕ, zero, suc, List, [], ◌∷◌, refl, subst}
+use Rattle.base.proofs.Options.{some_is}
 use Rattle.sector_disk.specs.Disk.{View}
 use Rattle.centre_core.specs.State.{State}
 use Rattle.flusher.specs.declared.session.Ended.{Ended}
@@ -15,14 +16,11 @@ use Rattle.flusher.specs.View.{FlusherView}
 use Rattle.flusher.proofs.Runs.{ends_still, same_ends}
 use Rattle.flusher.proofs.Sessions.{finished_sessions, opened_sessions, same_sessions, still_sessions}
 
-one : {X : Type 0} (x y : X) → Some x ≡ Some y → x ≡ y
-one x y e = cc
-
 -- what holds of both pairs holds at each place
 at_both : {X : Type 0} (P : X → X → Type 0) (a b c d : X) → P a c → P b d → (k : ℕ) (x y : X) →
     slice_get (a ∷ b ∷ []) k ≡ Some x → slice_get (c ∷ d ∷ []) k ≡ Some y → P x y
-at_both {X} P a b c d first second zero x y here there = subst (λ (q : X × X). P q.0 q.1) (λ i. (one a x here i, one c y there i)) first
-at_both {X} P a b c d first second (suc zero) x y here there = subst (λ (q : X × X). P q.0 q.1) (λ i. (one b x here i, one d y there i)) second
+at_both {X} P a b c d first second zero x y here there = subst (λ (q : X × X). P q.0 q.1) (λ i. (some_is a x here i, some_is c y there i)) first
+at_both {X} P a b c d first second (suc zero) x y here there = subst (λ (q : X × X). P q.0 q.1) (λ i. (some_is b x here i, some_is d y there i)) second
 at_both P a b c d first second (suc (suc k)) x y here there = absurd cc
 
 module _ {J D : Type 0} (f g : FlusherView D) where

@@ -4,7 +4,7 @@ ghost use Rattle.std.specs.Prelude.{◌≡◌, false, IfSome};
 use crate::centres::{centre, count};
 use centre_core::{Command, Query, QueryAnswer, Refusal};
 use flusher::{Answer, Gate, Session};
-use live_centre::{
+use probe_live_centre::{
     Task, WatchedDisk, attach, end_all, expiry, is_accept, opened, rule, serve_beside, worked_disk,
 };
 use recovery::Store;

@@ -4,7 +4,7 @@ ghost use Rattle.flusher.specs.Served.{IsSettled};
 ghost use Rattle.flusher.specs.View.{view_of};
 
 use flusher::{Flusher, Session, open_centre};
-use live_centre::WatchedDisk;
+use probe_live_centre::WatchedDisk;
 use recovery::Store;
 use sector_disk::Disk;
 use snapshots::{Centre, NewLog};

@@ -10,7 +10,7 @@ ghost use Rattle.flusher.specs.View.{view_of};
 
 use crate::centres::count;
 use flusher::{Answer, Ended, Flusher, Session, close, open_centre};
-use live_centre::{Idle, TURNS, WatchedDisk, expiry, opened, worked_disk};
+use probe_live_centre::{Idle, TURNS, WatchedDisk, expiry, opened, worked_disk};
 use recovery::Store;
 use snapshots::{Centre, NewLog};
 use std::alloc::Global;

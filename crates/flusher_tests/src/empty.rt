@@ -5,7 +5,7 @@ ghost use Rattle.flusher.specs.View.{view_of};
 
 use crate::centres::{centre, count};
 use flusher::{Flusher, Gate};
-use live_centre::{WatchedDisk, end_all, opened, with_rule, worked_disk};
+use probe_live_centre::{WatchedDisk, end_all, opened, with_rule, worked_disk};
 use recovery::Store;
 use snapshots::{Centre, NewLog};
 use std::alloc::Global;

@@ -4,7 +4,7 @@ ghost use Rattle.std.specs.Prelude.{◌≡◌, false};
 use crate::centres::centre;
 use centre_core::{Query, QueryAnswer, Register};
 use flusher::{Answer, Gate, Session};
-use live_centre::{Task, WatchedDisk, end_all, expiry, serve_beside, watched, worked_disk};
+use probe_live_centre::{Task, WatchedDisk, end_all, expiry, serve_beside, watched, worked_disk};
 use recovery::{Store, StoreFault};
 use sector_disk::{Failing, MemoryDisk};
 use snapshots::{Centre, NewLog};

@@ -3,7 +3,7 @@ ghost use Rattle.std.specs.Prelude.{◌≡◌, false};
 
 use crate::centres::{centre, count};
 use flusher::{Answer, Gate, Session};
-use live_centre::{Task, WatchedDisk, end_all, expiry, opened, serve_beside, worked_disk};
+use probe_live_centre::{Task, WatchedDisk, end_all, expiry, opened, serve_beside, worked_disk};
 use recovery::Store;
 use snapshots::{Centre, NewLog};
 use std::alloc::Global;

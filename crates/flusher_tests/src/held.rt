@@ -6,7 +6,7 @@ ghost use Rattle.flusher.specs.View.{view_of};
 use crate::centres::{centre, count};
 use centre_core::{Query, QueryAnswer};
 use flusher::{Answer, Flusher, Gate, Session};
-use live_centre::{
+use probe_live_centre::{
     Task, WatchedDisk, attach, comes_to, end_all, expiry, is_accept, opened, radio, serve_beside,
     with_rule, worked_disk,
 };

@@ -4,7 +4,7 @@ ghost use Rattle.std.specs.Prelude.{◌≡◌, false};
 use crate::centres::centre;
 use flusher::Session;
 use listings::{Listing, Table};
-use live_centre::{WatchedDisk, end_all, opened, with_rule, worked_disk};
+use probe_live_centre::{WatchedDisk, end_all, opened, with_rule, worked_disk};
 use recovery::Store;
 use snapshots::{Centre, NewLog};
 use std::alloc::Global;

@@ -1,12 +1,12 @@
 -- What a crash leaves in each step of an append.
-use Rattle.std.proofs.Common.{◌≡◌, ◌≢◌, ◌⊎◌, inl, inr, ℕ, ◌+◌, ◌-◌, ◌<◌, ◌≤◌, false, List, [], ◌∷◌, ◌++◌, length, slice_index, Result, Ok, Err, ◌∙◌, ap, arith}
+use Rattle.std.proofs.Common.{◌≡◌, ◌≢◌, ◌⊎◌, inl, inr, ℕ, ◌+◌, ◌-◌, ◌<◌, ◌≤◌, false, List, [], ◌∷◌, ◌++◌, length, slice_index, Result, Ok, Err, refl, ◌∙◌, ap, arith}
 use Rattle.std.proofs.lemmas.Bool.{cases_lt}
 use Rattle.std.specs.Result.{OnOk}
-use Rattle.sector_disk.specs.Disk.{View, IsImageOf, HasSynced, sector}
+use Rattle.sector_disk.specs.Disk.{View, IsImageOf, IsSound, HasSynced, sector}
 use Rattle.sector_disk.specs.Run.{LeavesOnly, IsTornImage}
 use Rattle.sector_disk.specs.Filling.{HasFilled}
 use Rattle.sector_disk.specs.declared.disk.DiskError.{DiskError}
-use Rattle.sector_disk.proofs.Moments.{goes_on, run_on, weaker, synced_images, durable_image}
+use Rattle.sector_disk.proofs.Moments.{goes_on, run_on, started, weaker, synced_images, durable_image}
 use Rattle.gated_journal.specs.Half.{Entry, IsOpen}
 use Rattle.centre_core.specs.Asked.{Asked}
 use Rattle.gated_journal.specs.Inside.Next.{counting}
@@ -16,8 +16,17 @@ use Rattle.gated_journal.specs.declared.place.Place.{Place}
 use Rattle.gated_journal.proofs.Chain.{half_up, same_half}
 use Rattle.gated_journal.proofs.OneHalf.{IsReadBack, IsStaged, following, beyond_half, counted_on, open_or_not, with_record}
 
+-- before anything is written
+pub nothing_yet : {A : Type 0} (place : Place) (before : ℕ) (entries : List (Entry A)) (last : Entry A) (disk : View) → IsSound disk
+    → IsSettled disk place before entries → LeavesOnly disk disk (Leaves disk place before entries last)
+nothing_yet place before entries last disk sound settled = started disk (Leaves disk place before entries last) sound (λ image is. record {
+  elsewhere = (image, is, record { count = refl; others = λ k out. refl });
+  half = inl (place.next, settled.half image is);
+})
+
 -- a run of writes, synced
-pub then_synced : (old filled synced : View) (at n : ℕ) (bytes : ℕ → List ℕ) (result : Result Unit DiskError) → HasFilled old filled at n bytes (Ok tt) → HasSynced filled synced result → HasFilled old synced at n bytes result
+pub then_synced : (old filled synced : View) (at n : ℕ) (bytes : ℕ → List ℕ) (result : Result Unit DiskError) →
+    HasFilled old filled at n bytes (Ok tt) → HasSynced filled synced result → HasFilled old synced at n bytes result
 then_synced old filled synced at n bytes result has syncs =
     let now : (image : List (List ℕ)) → IsImageOf synced image → IsTornImage old at n image = λ image is. has.now image (synced_images filled synced result syncs image is) in
     record {
@@ -36,14 +45,16 @@ then_synced old filled synced at n bytes result has syncs =
     written (Ok u) = λ k lt. as_before (at + k) ∙ has.written k lt
     written (Err e) = tt
 
-module _ {A : Type 0} (place : Place) (before : ℕ) (entries : List (Entry A)) (commands : List (Asked A)) (text : List ℕ) (read : IsReadBack place before entries commands text) (room : place.next + data_size text + 2 ≤ place.end) where
+module _ {A : Type 0} (place : Place) (before : ℕ) (entries : List (Entry A)) (commands : List (Asked A)) (text : List ℕ)
+    (read : IsReadBack place before entries commands text) (room : place.next + data_size text + 2 ≤ place.end) where
   abbrev Left : View → List (List ℕ) → Type 0
   Left old = Leaves old place before entries (place.next + 1, commands)
 
   abbrev Staged : List (List ℕ) → Type 0
   Staged sectors = IsStaged place before entries commands text read room sectors
 
-  outside : place.first ≤ place.next → place.first < place.end → (k : ℕ) → (k < place.first) ⊎ (place.first + (place.end - place.first) ≤ k) → (k < place.next + 1) ⊎ (place.next + 1 + (data_size text + 1) ≤ k)
+  outside : place.first ≤ place.next → place.first < place.end → (k : ℕ) → (k < place.first) ⊎ (place.first + (place.end - place.first) ≤ k) →
+      (k < place.next + 1) ⊎ (place.next + 1 + (data_size text + 1) ≤ k)
   outside up begins k (inl below) = inl (omega (arith, up, below))
   outside up begins k (inr above) = inr (omega (arith, room, begins, above))
 
@@ -60,7 +71,8 @@ module _ {A : Type 0} (place : Place) (before : ℕ) (entries : List (Entry A)) 
       }
 
   -- the sectors are being written, and synced
-  pub in_fill : (old filled : View) (result : Result Unit DiskError) → IsSettled old place before entries → HasFilled old filled (place.next + 1) (data_size text + 1) (data_sector text) result → LeavesOnly old filled (Left old)
+  pub in_fill : (old filled : View) (result : Result Unit DiskError) → IsSettled old place before entries →
+      HasFilled old filled (place.next + 1) (data_size text + 1) (data_sector text) result → LeavesOnly old filled (Left old)
   in_fill old filled result settled has = weaker old filled (IsTornImage old (place.next + 1) (data_size text + 1)) (Left old) has.crash (in_text old settled)
 
   module _ (old synced : View) (whole : IsImageOf old old.reads) (settled : IsSettled old place before entries)
@@ -114,7 +126,10 @@ module _ {A : Type 0} (place : Place) (before : ℕ) (entries : List (Entry A)) 
         }
 
 -- all outside the half reads as before
-pub reads_elsewhere : (place : Place) (text : List ℕ) → place.first ≤ place.next → place.next + data_size text + 2 ≤ place.end → (old synced new : View) (bytes gate : ℕ → List ℕ) (first result : Result Unit DiskError)
-    → HasFilled old synced (place.next + 1) (data_size text + 1) bytes first → HasFilled synced new place.next 1 gate result → (k : ℕ) → (k < place.first) ⊎ (place.end ≤ k) → sector new.reads k ≡ sector old.reads k
+pub reads_elsewhere : (place : Place) (text : List ℕ) → place.first ≤ place.next → place.next + data_size text + 2 ≤ place.end →
+    (old synced new : View) (bytes gate : ℕ → List ℕ) (first result : Result Unit DiskError)
+    → HasFilled old synced (place.next + 1) (data_size text + 1) bytes first → HasFilled synced new place.next 1 gate result → (k : ℕ) →
+    (k < place.first) ⊎ (place.end ≤ k) → sector new.reads k ≡ sector old.reads k
 reads_elsewhere place text up room old synced new bytes gate first result has wrote k out =
-    wrote.others k (beyond_half place place.next 1 up (omega (arith, room)) k out) ∙ has.others k (beyond_half place (place.next + 1) (data_size text + 1) (omega (arith, up)) (omega (arith, room)) k out)
+    wrote.others k (beyond_half place place.next 1 up (omega (arith, room)) k out) ∙
+    has.others k (beyond_half place (place.next + 1) (data_size text + 1) (omega (arith, up)) (omega (arith, room)) k out)

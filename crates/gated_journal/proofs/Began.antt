@@ -13,7 +13,9 @@ module _ {A : Type 0} where
       → IsSettled {A = A} disk (record { first = first; end = end; next = first; form = form; count = before }) before []
   begun disk first end before form lt closed = record { begins = lt; within = lt; counts = refl; half = λ image is. last_gate form (end - first) before image first end (closed image is) }
 
-  pub was_read : (disk : View) (place : Place) (before : ℕ) (entries : List (Entry A)) → place.first < place.end → place.next < place.end → counted before entries ≡ place.count → ((k : ℕ) → disk.pending k ≡ false) → half_of place.form before disk.reads place.first place.end ≡ Ok (entries, place.next)
+  pub was_read : (disk : View) (place : Place) (before : ℕ) (entries : List (Entry A)) → place.first < place.end → place.next < place.end →
+      counted before entries ≡ place.count → ((k : ℕ) → disk.pending k ≡ false) →
+      half_of place.form before disk.reads place.first place.end ≡ Ok (entries, place.next)
       → IsSettled disk place before entries
   was_read disk place before entries begins within counts durable reads = record {
     begins = begins;
@@ -22,5 +24,6 @@ module _ {A : Type 0} where
     half = λ image is. rw (only_image disk durable image is) reads;
   }
 
-  pub reads_so : (disk : View) (place : Place) (before : ℕ) (entries : List (Entry A)) → IsSound disk → IsSettled disk place before entries → half_of place.form before disk.reads place.first place.end ≡ Ok (entries, place.next)
+  pub reads_so : (disk : View) (place : Place) (before : ℕ) (entries : List (Entry A)) → IsSound disk → IsSettled disk place before entries →
+      half_of place.form before disk.reads place.first place.end ≡ Ok (entries, place.next)
   reads_so disk place before entries sound settled = settled.half disk.reads sound.reads_left

@@ -29,17 +29,23 @@ module _ (at n : ℕ) (text : List ℕ) (to m : ℕ) (other : List ℕ) where
   pub in_first : (old new : View) → HasMade old new (writes at n (data_sector text)) → HasMade old new (settled_both_calls at n text to m other)
   in_first old new has = made_of_more old new (writes at n (data_sector text)) (writes to m (data_sector other) ++ Sync ∷ []) has
 
-  pub in_second : (old mid new : View) → mid.calls ≡ old.calls ++ writes at n (data_sector text) → HasMade mid new (writes to m (data_sector other)) → HasMade old new (settled_both_calls at n text to m other)
-  in_second old mid new were has = made_after old mid new (writes at n (data_sector text)) (writes to m (data_sector other) ++ Sync ∷ []) were (made_of_more mid new (writes to m (data_sector other)) (Sync ∷ []) has)
+  pub in_second : (old mid new : View) → mid.calls ≡ old.calls ++ writes at n (data_sector text) → HasMade mid new (writes to m (data_sector other)) →
+      HasMade old new (settled_both_calls at n text to m other)
+  in_second old mid new were has = made_after old mid new (writes at n (data_sector text)) (writes to m (data_sector other) ++ Sync ∷ []) were
+      (made_of_more mid new (writes to m (data_sector other)) (Sync ∷ []) has)
 
-  pub in_their_sync : (old mid filled new : View) (result : Result Unit DiskError) → mid.calls ≡ old.calls ++ writes at n (data_sector text) → filled.calls ≡ mid.calls ++ writes to m (data_sector other) → IsCalled filled new Sync result → HasMade old new (settled_both_calls at n text to m other)
+  pub in_their_sync : (old mid filled new : View) (result : Result Unit DiskError) → mid.calls ≡ old.calls ++ writes at n (data_sector text) →
+      filled.calls ≡ mid.calls ++ writes to m (data_sector other) → IsCalled filled new Sync result →
+      HasMade old new (settled_both_calls at n text to m other)
   in_their_sync old mid filled new result were then called =
       made_after old mid new (writes at n (data_sector text)) (writes to m (data_sector other) ++ Sync ∷ []) were (made_on mid filled new (writes to m (data_sector other)) [] Sync result then called)
 
-  pub both_settled : (old mid filled new : View) (result : Result Unit DiskError) → mid.calls ≡ old.calls ++ writes at n (data_sector text) → filled.calls ≡ mid.calls ++ writes to m (data_sector other) → IsCalled filled new Sync result
+  pub both_settled : (old mid filled new : View) (result : Result Unit DiskError) → mid.calls ≡ old.calls ++ writes at n (data_sector text) →
+      filled.calls ≡ mid.calls ++ writes to m (data_sector other) → IsCalled filled new Sync result
       → OnOk result (new.calls ≡ old.calls ++ settled_both_calls at n text to m other)
   both_settled old mid filled new (Ok u) were then called =
-      all_after old.calls mid.calls new.calls (writes at n (data_sector text)) (writes to m (data_sector other) ++ Sync ∷ []) were (all_made mid.calls filled.calls new.calls (writes to m (data_sector other)) Sync then called.made)
+      all_after old.calls mid.calls new.calls (writes at n (data_sector text)) (writes to m (data_sector other) ++ Sync ∷ []) were
+      (all_made mid.calls filled.calls new.calls (writes to m (data_sector other)) Sync then called.made)
   both_settled old mid filled new (Err e) were then called = tt
 
 -- ---- the whole
@@ -61,14 +67,16 @@ module _ (gate : ℕ) (text : List ℕ) (also : ℕ) (other : List ℕ) where
   gates = settled_both_calls gate 1 (1 ∷ []) also 1 (1 ∷ [])
 
   gates_are : Write gate open_gate ∷ Write also open_gate ∷ Sync ∷ [] ≡ gates
-  gates_are = ap (λ (some : List Call). some ++ Write also open_gate ∷ Sync ∷ []) (gate_written gate) ∙ ap (λ (some : List Call). writes gate 1 (data_sector (1 ∷ [])) ++ (some ++ Sync ∷ [])) (gate_written also)
+  gates_are = ap (λ (some : List Call). some ++ Write also open_gate ∷ Sync ∷ []) (gate_written gate) ∙
+      ap (λ (some : List Call). writes gate 1 (data_sector (1 ∷ [])) ++ (some ++ Sync ∷ [])) (gate_written also)
 
   whole : append_both_calls gate text also other ≡ texts ++ gates
   whole =
       ap (λ (some : List Call). some ++ (text_calls also other ++ Sync ∷ Write gate open_gate ∷ Write also open_gate ∷ Sync ∷ [])) (text_written gate text)
       ∙ ap (λ (some : List Call). writes (gate + 1) (data_size text + 1) (data_sector text) ++ (some ++ Sync ∷ Write gate open_gate ∷ Write also open_gate ∷ Sync ∷ [])) (text_written also other)
       ∙ ap (λ (some : List Call). writes (gate + 1) (data_size text + 1) (data_sector text) ++ (writes (also + 1) (data_size other + 1) (data_sector other) ++ Sync ∷ some)) gates_are
-      ∙ ap (λ (some : List Call). writes (gate + 1) (data_size text + 1) (data_sector text) ++ some) (sym (append_assoc (writes (also + 1) (data_size other + 1) (data_sector other)) (Sync ∷ []) gates))
+      ∙ ap (λ (some : List Call). writes (gate + 1) (data_size text + 1) (data_sector text) ++ some)
+      (sym (append_assoc (writes (also + 1) (data_size other + 1) (data_sector other)) (Sync ∷ []) gates))
       ∙ sym (append_assoc (writes (gate + 1) (data_size text + 1) (data_sector text)) (writes (also + 1) (data_size other + 1) (data_sector other) ++ Sync ∷ []) gates)
 
   pub made_in_texts : (old new : View) → HasMade old new texts → HasMade old new (append_both_calls gate text also other)

@@ -1,7 +1,7 @@
 -- The calls that an append has made.
 use Rattle.std.proofs.Common.{◌≡◌, ℕ, zero, suc, ◌+◌, ◌*◌, ◌<◌, List, [], ◌∷◌, ◌++◌, replicate, slice_index, Result, Ok, Err, refl, sym, ap, ◌∙◌, append_assoc, arith}
 use Rattle.std.specs.Result.{OnOk}
-use Rattle.std.proofs.lemmas.List.{get_or_past, length-replicate, get_or-replicate}
+use Rattle.std.proofs.lemmas.List.{append-nil, get_or_past, length-replicate, get_or-replicate}
 use Rattle.std.proofs.lemmas.List.FromFn.{fill_by_all}
 use Rattle.sector_disk.specs.Disk.{View, IsCalled}
 use Rattle.sector_disk.specs.Run.{HasMade, writes}
@@ -54,15 +54,21 @@ module _ (gate : ℕ) (text : List ℕ) where
     calls_in_gate has = rw whole (record {
       made = settled_calls (gate + 1) (data_size text + 1) text ++ has.made;
       left = has.left;
-      prefix = ap (λ (some : List Call). settled_calls (gate + 1) (data_size text + 1) text ++ some) has.prefix ∙ sym (append_assoc (settled_calls (gate + 1) (data_size text + 1) text) has.made has.left);
+      prefix = ap (λ (some : List Call). settled_calls (gate + 1) (data_size text + 1) text ++ some) has.prefix ∙
+          sym (append_assoc (settled_calls (gate + 1) (data_size text + 1) text) has.made has.left);
       now = has.now ∙ ap (λ (some : List Call). some ++ has.made) were ∙ append_assoc old.calls (settled_calls (gate + 1) (data_size text + 1) text) has.made;
     })
 
     pub calls_at_end : new.calls ≡ mid.calls ++ settled_calls gate 1 (1 ∷ []) → new.calls ≡ old.calls ++ append_calls gate text
-    calls_at_end last = rw whole (last ∙ ap (λ (some : List Call). some ++ settled_calls gate 1 (1 ∷ [])) were ∙ append_assoc old.calls (settled_calls (gate + 1) (data_size text + 1) text) (settled_calls gate 1 (1 ∷ [])))
+    calls_at_end last = rw whole (last ∙ ap (λ (some : List Call). some ++ settled_calls gate 1 (1 ∷ [])) were ∙
+        append_assoc old.calls (settled_calls (gate + 1) (data_size text + 1) text) (settled_calls gate 1 (1 ∷ [])))
 
 -- the sectors are filled, and then synced
 pub settled_at_end : (old mid new : View) (at n : ℕ) (text : List ℕ) (result : Result Unit DiskError) → mid.calls ≡ old.calls ++ writes at n (data_sector text) → IsCalled mid new Sync result
     → OnOk result (new.calls ≡ old.calls ++ settled_calls at n text)
 settled_at_end old mid new at n text (Ok u) were called = all_made old.calls mid.calls new.calls (writes at n (data_sector text)) Sync were called.made
 settled_at_end old mid new at n text (Err e) were called = tt
+
+-- all of them were made
+pub whole_made : (old new : View) (calls : List Call) → new.calls ≡ old.calls ++ calls → HasMade old new calls
+whole_made old new calls is = record { made = calls; left = []; prefix = sym (append-nil calls); now = is }

@@ -1,5 +1,6 @@
 -- What the records of a half hang on.
-use Rattle.std.proofs.Common.{cond, eqb, leb, ltb, ◌≡◌, ℕ, zero, suc, ◌-◌, ◌+◌, ◌*◌, ◌≤◌, ◌<◌, List, [], ◌∷◌, ◌++◌, length, slice_index, true, false, Bool, Option, Some, None, Ok, Err, refl, sym, ap, ◌∙◌, arith}
+use Rattle.std.proofs.Common.{cond, eqb, leb, ltb, ◌≡◌, ℕ, zero, suc, ◌-◌, ◌+◌, ◌*◌, ◌≤◌, ◌<◌, List, [], ◌∷◌, ◌++◌, length, slice_index, true, false}
+use Rattle.std.proofs.Common.{Bool, Option, Some, None, Ok, Err, refl, sym, ap, ◌∙◌, arith}
 use Rattle.std.proofs.lemmas.List.{get_or_past}
 use Rattle.std.proofs.lemmas.List.FromFn.{get_or-map-range_with_len}
 use Rattle.std.proofs.lemmas.Bool.Decides.{nat_tests}
@@ -47,10 +48,12 @@ module _ {A : Type 0} (form : Form) where
       let size = stated_size form (sector image (at + 1)) in
       let next = at + 1 + size in
       let read = found (at + 1) next (record_of form before (data_from image (at + 1) (stated_size form (sector image (at + 1))))) in
-      let b = none_is (eqb (slice_index (sector image at) 0) 1) (eqb (at + 1) end) (leb size most_sectors && ltb next end) at (at + 1) read (found_something (at + 1) next (record_of form before (data_from image (at + 1) (stated_size form (sector image (at + 1)))))) e in
+      let b = none_is (eqb (slice_index (sector image at) 0) 1) (eqb (at + 1) end) (leb size most_sectors && ltb next end) at (at + 1) read
+      (found_something (at + 1) next (record_of form before (data_from image (at + 1) (stated_size form (sector image (at + 1)))))) e in
       grind (arith, nat_tests)
 
-  pub record_there : (before : ℕ) (image : List (List ℕ)) (at end : ℕ) (commands : List (Asked A)) (next : ℕ) → Opened form before image at end commands next → record_at form before image at end ≡ Ok (Some (commands, next))
+  pub record_there : (before : ℕ) (image : List (List ℕ)) (at end : ℕ) (commands : List (Asked A)) (next : ℕ) →
+      Opened form before image at end commands next → record_at form before image at end ≡ Ok (Some (commands, next))
   unfolding record_at
   record_there before image at end commands next is =
       let a : eqb (slice_index (sector image at) 0) 1 ≡ true = let gate = is.gate in grind (arith, nat_tests) in
@@ -60,7 +63,9 @@ module _ {A : Type 0} (form : Form) where
       let d : (leb size most_sectors && ltb (at + 1 + size) end) ≡ true = both size (at + 1 + size) end is.few lt in
       rw (a, b, d, is.read, ← is.next_is) refl
 
-  pub opened_same : (before : ℕ) (old new : List (List ℕ)) (at end : ℕ) (commands : List (Asked A)) (next : ℕ) → Opened form before old at end commands next → ((k : ℕ) → at ≤ k → k < next → sector new k ≡ sector old k) → Opened form before new at end commands next
+  pub opened_same : (before : ℕ) (old new : List (List ℕ)) (at end : ℕ) (commands : List (Asked A)) (next : ℕ) →
+      Opened form before old at end commands next → ((k : ℕ) → at ≤ k → k < next → sector new k ≡ sector old k) →
+      Opened form before new at end commands next
   opened_same before old new at end commands next is same =
       let size = stated_size form (sector old (at + 1)) in
       let first : sector new at ≡ sector old at = same at (omega arith) (omega (arith, is.next_is)) in
@@ -79,7 +84,8 @@ module _ {A : Type 0} (form : Form) where
   ok_parts : (a b : List (Entry A)) (m n : ℕ) → ◌≡◌ {A = Half A} (Ok (a, m)) (Ok (b, n)) → (a ≡ b) × (m ≡ n)
   ok_parts a b m n e = let pair : ◌≡◌ {A = List (Entry A) × ℕ} (a, m) (b, n) = cc in (ap (λ (x : List (Entry A) × ℕ). x.0) pair, ap (λ (x : List (Entry A) × ℕ). x.1) pair)
 
-  prefix_is : (prefix : List (Entry A)) (half : Half A) (entries : List (Entry A)) (gate : ℕ) → with_prefix prefix half ≡ Ok (entries, gate) → (rest : List (Entry A)) × (half ≡ Ok (rest, gate)) × (entries ≡ prefix ++ rest)
+  prefix_is : (prefix : List (Entry A)) (half : Half A) (entries : List (Entry A)) (gate : ℕ) → with_prefix prefix half ≡ Ok (entries, gate) →
+      (rest : List (Entry A)) × (half ≡ Ok (rest, gate)) × (entries ≡ prefix ++ rest)
   prefix_is prefix (Ok half) entries gate e = let parts = ok_parts (prefix ++ half.0) entries half.1 gate e in (half.0, ap (λ (g : ℕ). Ok (half.0, g)) parts.1, sym parts.0)
   prefix_is prefix (Err s) entries gate e = absurd cc
 
@@ -87,12 +93,15 @@ module _ {A : Type 0} (form : Form) where
   unfolding half_from
   goes_up zero before image at end entries gate e = let same : at ≡ gate = (ok_parts [] entries at gate e).1 in omega (arith, same)
   goes_up (suc fuel) before image at end entries gate e =
-      elim (record_at {A = A} form before image at end) as (λ r. record_at form before image at end ≡ r → half_on at r (λ x. half_from fuel form (before + length x.0) image x.1 end) ≡ Ok (entries, gate) → at ≤ gate) [
+      elim (record_at {A = A} form before image at end) as
+      (λ r. record_at form before image at end ≡ r → half_on at r (λ x. half_from fuel form (before + length x.0) image x.1 end) ≡ Ok
+      (entries, gate) → at ≤ gate) [
         | Err fault ↦ λ is f. absurd cc
         | Ok o ↦ λ is f. on (λ x rest. goes_up fuel (before + length x.0) image x.1 end rest gate) o is f
       ] refl e
     where
-      on : ((x : List (Asked A) × ℕ) (rest : List (Entry A)) → half_from fuel form (before + length x.0) image x.1 end ≡ Ok (rest, gate) → x.1 ≤ gate) → (o : Option (List (Asked A) × ℕ)) → record_at form before image at end ≡ Ok o
+      on : ((x : List (Asked A) × ℕ) (rest : List (Entry A)) → half_from fuel form (before + length x.0) image x.1 end ≡ Ok (rest, gate) →
+          x.1 ≤ gate) → (o : Option (List (Asked A) × ℕ)) → record_at form before image at end ≡ Ok o
           → half_on at (Ok o) (λ x. half_from fuel form (before + length x.0) image x.1 end) ≡ Ok (entries, gate) → at ≤ gate
       on go None is f = let same : at ≡ gate = (ok_parts [] entries at gate f).1 in omega (arith, same)
       on go (Some x) is f =
@@ -108,12 +117,15 @@ module _ {A : Type 0} (form : Form) where
   unfolding half_from
   stays_below zero before image at end entries gate within e = let same : at ≡ gate = (ok_parts [] entries at gate e).1 in omega (arith, same, within)
   stays_below (suc fuel) before image at end entries gate within e =
-      elim (record_at {A = A} form before image at end) as (λ r. record_at form before image at end ≡ r → half_on at r (λ x. half_from fuel form (before + length x.0) image x.1 end) ≡ Ok (entries, gate) → gate < end) [
+      elim (record_at {A = A} form before image at end) as
+      (λ r. record_at form before image at end ≡ r → half_on at r (λ x. half_from fuel form (before + length x.0) image x.1 end) ≡ Ok
+      (entries, gate) → gate < end) [
         | Err fault ↦ λ is f. absurd cc
         | Ok o ↦ λ is f. on (λ x rest below. stays_below fuel (before + length x.0) image x.1 end rest gate below) o is f
       ] refl e
     where
-      on : ((x : List (Asked A) × ℕ) (rest : List (Entry A)) → x.1 < end → half_from fuel form (before + length x.0) image x.1 end ≡ Ok (rest, gate) → gate < end) → (o : Option (List (Asked A) × ℕ)) → record_at form before image at end ≡ Ok o
+      on : ((x : List (Asked A) × ℕ) (rest : List (Entry A)) → x.1 < end → half_from fuel form (before + length x.0) image x.1 end ≡ Ok (rest, gate) →
+          gate < end) → (o : Option (List (Asked A) × ℕ)) → record_at form before image at end ≡ Ok o
           → half_on at (Ok o) (λ x. half_from fuel form (before + length x.0) image x.1 end) ≡ Ok (entries, gate) → gate < end
       on go None is f = let same : at ≡ gate = (ok_parts [] entries at gate f).1 in omega (arith, same, within)
       on go (Some x) is f =
@@ -124,18 +136,25 @@ module _ {A : Type 0} (form : Form) where
   half_below before image at end entries gate within e = stays_below (end - at) before image at end entries gate within e
 
   -- a half's records hang on the sectors from its first gate to its last alone
-  pub same_from : (fuel before : ℕ) (old new : List (List ℕ)) (at end : ℕ) (entries : List (Entry A)) (gate : ℕ) → half_from fuel form before old at end ≡ Ok (entries, gate) → ((k : ℕ) → at ≤ k → k ≤ gate → sector new k ≡ sector old k)
+  pub same_from : (fuel before : ℕ) (old new : List (List ℕ)) (at end : ℕ) (entries : List (Entry A)) (gate : ℕ) →
+      half_from fuel form before old at end ≡ Ok (entries, gate) → ((k : ℕ) → at ≤ k → k ≤ gate → sector new k ≡ sector old k)
       → half_from fuel form before new at end ≡ Ok (entries, gate)
   unfolding half_from
   same_from zero before old new at end entries gate e same = e
   same_from (suc fuel) before old new at end entries gate e same =
-      elim (record_at {A = A} form before old at end) as (λ r. record_at form before old at end ≡ r → half_on at r (λ x. half_from fuel form (before + length x.0) old x.1 end) ≡ Ok (entries, gate) → half_on at (record_at form before new at end) (λ x. half_from fuel form (before + length x.0) new x.1 end) ≡ Ok (entries, gate)) [
+      elim (record_at {A = A} form before old at end) as
+      (λ r. record_at form before old at end ≡ r → half_on at r (λ x. half_from fuel form (before + length x.0) old x.1 end) ≡ Ok
+      (entries, gate) → half_on at (record_at form before new at end) (λ x. half_from fuel form (before + length x.0) new x.1 end) ≡ Ok
+      (entries, gate)) [
         | Err fault ↦ λ is f. absurd cc
         | Ok o ↦ λ is f. on (λ x rest. same_from fuel (before + length x.0) old new x.1 end rest gate) o is f
       ] refl e
     where
-      on : ((x : List (Asked A) × ℕ) (rest : List (Entry A)) → half_from fuel form (before + length x.0) old x.1 end ≡ Ok (rest, gate) → ((k : ℕ) → x.1 ≤ k → k ≤ gate → sector new k ≡ sector old k) → half_from fuel form (before + length x.0) new x.1 end ≡ Ok (rest, gate))
-          → (o : Option (List (Asked A) × ℕ)) → record_at form before old at end ≡ Ok o → half_on at (Ok o) (λ x. half_from fuel form (before + length x.0) old x.1 end) ≡ Ok (entries, gate) → half_on at (record_at form before new at end) (λ x. half_from fuel form (before + length x.0) new x.1 end) ≡ Ok (entries, gate)
+      on : ((x : List (Asked A) × ℕ) (rest : List (Entry A)) → half_from fuel form (before + length x.0) old x.1 end ≡ Ok (rest, gate) →
+          ((k : ℕ) → x.1 ≤ k → k ≤ gate → sector new k ≡ sector old k) → half_from fuel form (before + length x.0) new x.1 end ≡ Ok (rest, gate))
+          → (o : Option (List (Asked A) × ℕ)) → record_at form before old at end ≡ Ok o →
+          half_on at (Ok o) (λ x. half_from fuel form (before + length x.0) old x.1 end) ≡ Ok (entries, gate) →
+          half_on at (record_at form before new at end) (λ x. half_from fuel form (before + length x.0) new x.1 end) ≡ Ok (entries, gate)
       on go None is f =
           let here : at ≡ gate = (ok_parts [] entries at gate f).1 in
           let closed : IsClosed (sector new at) = λ opened. is_shut before old at end is (ap (λ (bytes : List ℕ). slice_index bytes 0) (sym (same at (omega arith) (omega (arith, here)))) ∙ opened) in
@@ -148,7 +167,9 @@ module _ {A : Type 0} (form : Form) where
           let tail = go x rest.0 rest.1 (λ k le lt. same k (omega (arith, le, there.next_is)) lt) in
           rw (new_there, tail) (ap (λ (l : List (Entry A)). Ok (l, gate)) (sym rest.2))
 
-  pub same_half : (before : ℕ) (old new : List (List ℕ)) (at end : ℕ) (entries : List (Entry A)) (gate : ℕ) → half_of form before old at end ≡ Ok (entries, gate) → ((k : ℕ) → at ≤ k → k ≤ gate → sector new k ≡ sector old k) → half_of form before new at end ≡ Ok (entries, gate)
+  pub same_half : (before : ℕ) (old new : List (List ℕ)) (at end : ℕ) (entries : List (Entry A)) (gate : ℕ) →
+      half_of form before old at end ≡ Ok (entries, gate) → ((k : ℕ) → at ≤ k → k ≤ gate → sector new k ≡ sector old k) →
+      half_of form before new at end ≡ Ok (entries, gate)
   same_half before old new at end entries gate e same = same_from (end - at) before old new at end entries gate e same
 
   pub last_gate : (fuel before : ℕ) (new : List (List ℕ)) (next end : ℕ) → IsClosed (sector new next) → half_from {A = A} fuel form before new next end ≡ Ok ([], next)
@@ -157,19 +178,29 @@ module _ {A : Type 0} (form : Form) where
   last_gate (suc fuel) before new next end closed = rw (shut before new next end closed) refl
 
   -- with one record more
-  pub more_from : (fuel before : ℕ) (old new : List (List ℕ)) (at end : ℕ) (entries : List (Entry A)) (gate : ℕ) (commands : List (Asked A)) (next : ℕ) → end ≤ at + fuel → gate < end → half_from fuel form before old at end ≡ Ok (entries, gate)
-      → ((k : ℕ) → at ≤ k → k < gate → sector new k ≡ sector old k) → Opened form (counted before entries) new gate end commands next → IsClosed (sector new next) → half_from fuel form before new at end ≡ Ok (entries ++ (gate + 1, commands) ∷ [], next)
+  pub more_from : (fuel before : ℕ) (old new : List (List ℕ)) (at end : ℕ) (entries : List (Entry A)) (gate : ℕ) (commands : List (Asked A))
+      (next : ℕ) → end ≤ at + fuel → gate < end → half_from fuel form before old at end ≡ Ok (entries, gate)
+      → ((k : ℕ) → at ≤ k → k < gate → sector new k ≡ sector old k) → Opened form (counted before entries) new gate end commands next →
+      IsClosed (sector new next) → half_from fuel form before new at end ≡ Ok (entries ++ (gate + 1, commands) ∷ [], next)
   unfolding half_from
   more_from zero before old new at end entries gate commands next le lt e same is closed = let here : at ≡ gate = (ok_parts [] entries at gate e).1 in absurd (omega (arith, here, le, lt))
   more_from (suc fuel) before old new at end entries gate commands next le lt e same is closed =
-      elim (record_at {A = A} form before old at end) as (λ r. record_at form before old at end ≡ r → half_on at r (λ x. half_from fuel form (before + length x.0) old x.1 end) ≡ Ok (entries, gate) → half_on at (record_at form before new at end) (λ x. half_from fuel form (before + length x.0) new x.1 end) ≡ Ok (entries ++ (gate + 1, commands) ∷ [], next)) [
+      elim (record_at {A = A} form before old at end) as
+      (λ r. record_at form before old at end ≡ r → half_on at r (λ x. half_from fuel form (before + length x.0) old x.1 end) ≡ Ok
+      (entries, gate) → half_on at (record_at form before new at end) (λ x. half_from fuel form (before + length x.0) new x.1 end) ≡ Ok
+      (entries ++ (gate + 1, commands) ∷ [], next)) [
         | Err fault ↦ λ was f. absurd cc
         | Ok o ↦ λ was f. on (λ x rest. more_from fuel (before + length x.0) old new x.1 end rest gate commands next) o was f
       ] refl e
     where
-      on : ((x : List (Asked A) × ℕ) (rest : List (Entry A)) → end ≤ x.1 + fuel → gate < end → half_from fuel form (before + length x.0) old x.1 end ≡ Ok (rest, gate) → ((k : ℕ) → x.1 ≤ k → k < gate → sector new k ≡ sector old k) → Opened form (counted (before + length x.0) rest) new gate end commands next → IsClosed (sector new next)
+      on : ((x : List (Asked A) × ℕ) (rest : List (Entry A)) → end ≤ x.1 + fuel → gate < end →
+          half_from fuel form (before + length x.0) old x.1 end ≡ Ok (rest, gate) → ((k : ℕ) → x.1 ≤ k → k < gate → sector new k ≡ sector old k) →
+          Opened form (counted (before + length x.0) rest) new gate end commands next → IsClosed (sector new next)
           → half_from fuel form (before + length x.0) new x.1 end ≡ Ok (rest ++ (gate + 1, commands) ∷ [], next))
-          → (o : Option (List (Asked A) × ℕ)) → record_at form before old at end ≡ Ok o → half_on at (Ok o) (λ x. half_from fuel form (before + length x.0) old x.1 end) ≡ Ok (entries, gate) → half_on at (record_at form before new at end) (λ x. half_from fuel form (before + length x.0) new x.1 end) ≡ Ok (entries ++ (gate + 1, commands) ∷ [], next)
+          → (o : Option (List (Asked A) × ℕ)) → record_at form before old at end ≡ Ok o →
+          half_on at (Ok o) (λ x. half_from fuel form (before + length x.0) old x.1 end) ≡ Ok (entries, gate) →
+          half_on at (record_at form before new at end) (λ x. half_from fuel form (before + length x.0) new x.1 end) ≡ Ok
+          (entries ++ (gate + 1, commands) ∷ [], next)
       on go None was f =
           let here : at ≡ gate = (ok_parts [] entries at gate f).1 in
           let none : entries ≡ [] = sym ((ok_parts [] entries at gate f).0) in
@@ -184,23 +215,33 @@ module _ {A : Type 0} (form : Form) where
           let tail = go x rest.0 (omega (arith, there.next_is, le)) lt rest.1 (λ k le lt. same k (omega (arith, le, there.next_is)) lt) (rw (ap (counted before) rest.2) at is) closed in
           rw (new_there, tail) (ap (λ (l : List (Entry A)). Ok (l ++ (gate + 1, commands) ∷ [], next)) (sym rest.2))
 
-  pub half_more : (before : ℕ) (old new : List (List ℕ)) (at end : ℕ) (entries : List (Entry A)) (gate : ℕ) (commands : List (Asked A)) (next : ℕ) → gate < end → half_of form before old at end ≡ Ok (entries, gate) → ((k : ℕ) → at ≤ k → k < gate → sector new k ≡ sector old k)
+  pub half_more : (before : ℕ) (old new : List (List ℕ)) (at end : ℕ) (entries : List (Entry A)) (gate : ℕ) (commands : List (Asked A)) (next : ℕ) →
+      gate < end → half_of form before old at end ≡ Ok (entries, gate) → ((k : ℕ) → at ≤ k → k < gate → sector new k ≡ sector old k)
       → Opened form (counted before entries) new gate end commands next → IsClosed (sector new next) → half_of form before new at end ≡ Ok (entries ++ (gate + 1, commands) ∷ [], next)
   half_more before old new at end entries gate commands next lt e same is closed = more_from (end - at) before old new at end entries gate commands next (omega arith) lt e same is closed
 
   -- the last gate's sector may hold anything that is closed
-  pub still_from : (fuel before : ℕ) (old new : List (List ℕ)) (at end : ℕ) (entries : List (Entry A)) (gate : ℕ) → half_from fuel form before old at end ≡ Ok (entries, gate) → ((k : ℕ) → at ≤ k → k < gate → sector new k ≡ sector old k) → IsClosed (sector new gate)
+  pub still_from : (fuel before : ℕ) (old new : List (List ℕ)) (at end : ℕ) (entries : List (Entry A)) (gate : ℕ) →
+      half_from fuel form before old at end ≡ Ok (entries, gate) → ((k : ℕ) → at ≤ k → k < gate → sector new k ≡ sector old k) →
+      IsClosed (sector new gate)
       → half_from fuel form before new at end ≡ Ok (entries, gate)
   unfolding half_from
   still_from zero before old new at end entries gate e same closed = e
   still_from (suc fuel) before old new at end entries gate e same closed =
-      elim (record_at {A = A} form before old at end) as (λ r. record_at form before old at end ≡ r → half_on at r (λ x. half_from fuel form (before + length x.0) old x.1 end) ≡ Ok (entries, gate) → half_on at (record_at form before new at end) (λ x. half_from fuel form (before + length x.0) new x.1 end) ≡ Ok (entries, gate)) [
+      elim (record_at {A = A} form before old at end) as
+      (λ r. record_at form before old at end ≡ r → half_on at r (λ x. half_from fuel form (before + length x.0) old x.1 end) ≡ Ok
+      (entries, gate) → half_on at (record_at form before new at end) (λ x. half_from fuel form (before + length x.0) new x.1 end) ≡ Ok
+      (entries, gate)) [
         | Err fault ↦ λ is f. absurd cc
         | Ok o ↦ λ is f. on (λ x rest. still_from fuel (before + length x.0) old new x.1 end rest gate) o is f
       ] refl e
     where
-      on : ((x : List (Asked A) × ℕ) (rest : List (Entry A)) → half_from fuel form (before + length x.0) old x.1 end ≡ Ok (rest, gate) → ((k : ℕ) → x.1 ≤ k → k < gate → sector new k ≡ sector old k) → IsClosed (sector new gate) → half_from fuel form (before + length x.0) new x.1 end ≡ Ok (rest, gate))
-          → (o : Option (List (Asked A) × ℕ)) → record_at form before old at end ≡ Ok o → half_on at (Ok o) (λ x. half_from fuel form (before + length x.0) old x.1 end) ≡ Ok (entries, gate) → half_on at (record_at form before new at end) (λ x. half_from fuel form (before + length x.0) new x.1 end) ≡ Ok (entries, gate)
+      on : ((x : List (Asked A) × ℕ) (rest : List (Entry A)) → half_from fuel form (before + length x.0) old x.1 end ≡ Ok (rest, gate) →
+          ((k : ℕ) → x.1 ≤ k → k < gate → sector new k ≡ sector old k) → IsClosed (sector new gate) →
+          half_from fuel form (before + length x.0) new x.1 end ≡ Ok (rest, gate))
+          → (o : Option (List (Asked A) × ℕ)) → record_at form before old at end ≡ Ok o →
+          half_on at (Ok o) (λ x. half_from fuel form (before + length x.0) old x.1 end) ≡ Ok (entries, gate) →
+          half_on at (record_at form before new at end) (λ x. half_from fuel form (before + length x.0) new x.1 end) ≡ Ok (entries, gate)
       on go None is f =
           let here : at ≡ gate = (ok_parts [] entries at gate f).1 in
           let shut_here : IsClosed (sector new at) = rw here closed in
@@ -213,6 +254,7 @@ module _ {A : Type 0} (form : Form) where
           let tail = go x rest.0 rest.1 (λ k le lt. same k (omega (arith, le, there.next_is)) lt) closed in
           rw (new_there, tail) (ap (λ (l : List (Entry A)). Ok (l, gate)) (sym rest.2))
 
-  pub still_shut : (before : ℕ) (old new : List (List ℕ)) (at end : ℕ) (entries : List (Entry A)) (gate : ℕ) → half_of form before old at end ≡ Ok (entries, gate) → ((k : ℕ) → at ≤ k → k < gate → sector new k ≡ sector old k) → IsClosed (sector new gate)
+  pub still_shut : (before : ℕ) (old new : List (List ℕ)) (at end : ℕ) (entries : List (Entry A)) (gate : ℕ) →
+      half_of form before old at end ≡ Ok (entries, gate) → ((k : ℕ) → at ≤ k → k < gate → sector new k ≡ sector old k) → IsClosed (sector new gate)
       → half_of form before new at end ≡ Ok (entries, gate)
   still_shut before old new at end entries gate e same closed = still_from (end - at) before old new at end entries gate e same closed

@@ -22,7 +22,8 @@ cut_is text k first end first_is end_is =
     (length-append part (replicate (512 - length part) 0) ∙ ap (λ (n : ℕ). length part + n) (length-replicate {A = ℕ} (512 - length part) 0) ∙ omega (arith, rest, size, first_is, end_is))
     (λ i lt. elim (cases_lt i (length part)) [
       | inl within ↦ let there : first + i ≡ 512 * k + i = omega (arith, rest, size, first_is, end_is, within) in
-          get_or_append_left part (replicate (512 - length part) 0) 0 i within ∙ get_or-take (end - first) (drop first text) i 0 (omega (arith, size, within)) ∙ get_or-drop first text i 0 ∙ ap (slice_index text) there
+          get_or_append_left part (replicate (512 - length part) 0) 0 i within ∙
+          get_or-take (end - first) (drop first text) i 0 (omega (arith, size, within)) ∙ get_or-drop first text i 0 ∙ ap (slice_index text) there
       | inr past ↦ get_or-append_right part (replicate (512 - length part) 0) (length part) i 0 refl past ∙ zeros_at (512 - length part) (i - length part)
           ∙ sym (get_or_past text (512 * k + i) 0 (omega (arith, rest, size, first_is, end_is, past)))
     ])

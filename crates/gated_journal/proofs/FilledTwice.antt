@@ -16,7 +16,8 @@ module _ (at n to m : ℕ) where
   first_torn old image (was, is, torn) = (was, is, record { count = torn.count; others = λ k out also. torn.others k out })
 
   -- the first place, and then the second
-  pub both_torn : (old mid : View) → ((image : List (List ℕ)) → IsImageOf mid image → IsTornImage old at n image) → (image : List (List ℕ)) → IsTornImage mid to m image → IsTornTwiceImage old at n to m image
+  pub both_torn : (old mid : View) → ((image : List (List ℕ)) → IsImageOf mid image → IsTornImage old at n image) → (image : List (List ℕ)) →
+      IsTornImage mid to m image → IsTornTwiceImage old at n to m image
   both_torn old mid now image (was, is, torn) =
       let first = now was is in (
         first.0,
@@ -41,10 +42,13 @@ module _ (at n to m : ℕ) where
     }
 
     -- the second run, wholly elsewhere, ends
-    pub filled_second : (old mid new : View) (result : Result Unit DiskError) → (at + n ≤ to) ⊎ (to + m ≤ at) → HasFilled old mid at n bytes (Ok tt) → HasFilled mid new to m more result → HasFilledTwice old new at n bytes to m more result
+    pub filled_second : (old mid new : View) (result : Result Unit DiskError) → (at + n ≤ to) ⊎ (to + m ≤ at) → HasFilled old mid at n bytes (Ok tt) →
+        HasFilled mid new to m more result → HasFilledTwice old new at n bytes to m more result
     filled_second old mid new result apart first second = record {
       honest = second.honest;
-      crash = run_on old mid new (IsTornTwiceImage old at n to m) (IsTornImage mid to m) (weaker old mid (IsTornImage old at n) (IsTornTwiceImage old at n to m) first.crash (first_torn old)) second.crash (both_torn old mid first.now);
+      crash = run_on old mid new (IsTornTwiceImage old at n to m) (IsTornImage mid to m)
+          (weaker old mid (IsTornImage old at n) (IsTornTwiceImage old at n to m) first.crash (first_torn old)) second.crash
+          (both_torn old mid first.now);
       now = λ image is. both_torn old mid first.now image (second.now image is);
       count = second.count ∙ first.count;
       others = λ k out also. second.others k also ∙ first.others k out;
@@ -73,7 +77,8 @@ module _ (at n to m : ℕ) where
     }
 
     -- both are synced
-    pub then_synced_twice : (old filled synced : View) (result : Result Unit DiskError) → HasFilledTwice old filled at n bytes to m more (Ok tt) → HasSynced filled synced result → HasFilledTwice old synced at n bytes to m more result
+    pub then_synced_twice : (old filled synced : View) (result : Result Unit DiskError) → HasFilledTwice old filled at n bytes to m more (Ok tt) →
+        HasSynced filled synced result → HasFilledTwice old synced at n bytes to m more result
     then_synced_twice old filled synced result has syncs =
         let now : (image : List (List ℕ)) → IsImageOf synced image → IsTornTwiceImage old at n to m image = λ image is. has.now image (synced_images filled synced result syncs image is) in
         record {

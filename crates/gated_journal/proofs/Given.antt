@@ -20,7 +20,14 @@ use Rattle.gated_journal.proofs.Written.{length-text}
 
 pub head_length : (form : Form) (before count size : ℕ) (head : List ℕ) → head ≡ big 2 count ++ (first_text (first_of form before) ++ big 4 size) → length head ≡ head_len form
 head_length form before count size head is =
-    ap length is ∙ omega (arith, length-append (big 2 count) (first_text (first_of form before) ++ big 4 size), length-append (first_text (first_of form before)) (big 4 size), length-big 2 count, length-big 4 size, head_bytes form before)
+    ap length is ∙ omega (
+      arith,
+      length-append (big 2 count) (first_text (first_of form before) ++ big 4 size),
+      length-append (first_text (first_of form before)) (big 4 size),
+      length-big 2 count,
+      length-big 4 size,
+      head_bytes form before,
+    )
 
 -- one of the commands, as a loop meets it
 module _ {B : Type 0} (cs : List (Bor (Asked B))) (i : ℕ) (c : Bor (Asked B)) (lt : i < length cs) (is : c ≡ get_or cs i c) where
@@ -29,7 +36,8 @@ module _ {B : Type 0} (cs : List (Bor (Asked B))) (i : ℕ) (c : Bor (Asked B)) 
       let here : length (command_text c.now) ≡ length (command_text ((get_or cs i c).now)) = ap (λ (x : Bor (Asked B)). length (command_text x.now)) is in
       omega (arith, here, length-flat_map-take (λ (x : Bor (Asked B)). command_text x.now) cs i c lt)
 
-  pub one_more : (prefix out new : List ℕ) → out ≡ prefix ++ flat_map (λ c. command_text c.now) (take i cs) → new ≡ out ++ command_text c.now → new ≡ prefix ++ flat_map (λ c. command_text c.now) (take (i + 1) cs)
+  pub one_more : (prefix out new : List ℕ) → out ≡ prefix ++ flat_map (λ c. command_text c.now) (take i cs) → new ≡ out ++ command_text c.now →
+      new ≡ prefix ++ flat_map (λ c. command_text c.now) (take (i + 1) cs)
   one_more prefix out new was e =
       e ∙ ap (λ (l : List ℕ). l ++ command_text c.now) was ∙ flat_map_more (λ (x : Bor (Asked B)). command_text x.now) prefix (take i cs) c
       ∙ ap (λ (l : List (Bor (Asked B))). prefix ++ flat_map (λ x. command_text x.now) l) (ap (λ (x : Bor (Asked B)). take i cs ++ x ∷ []) is ∙ sym (take_more cs i c lt))
@@ -85,13 +93,16 @@ module _ {B : Type 0} (A : Type 0) where
   given_count cs = length-map cs (λ (c : Bor (Asked B)). under A c.now)
 
   -- how many sectors its record takes
-  pub given_size : (form : Form) (before : ℕ) (cs : List (Bor (Asked B))) → data_size (record_text form before (given A cs)) ≡ (head_len form + length (flat_map (λ c. command_text c.now) cs) + 511) / 512
+  pub given_size : (form : Form) (before : ℕ) (cs : List (Bor (Asked B))) →
+      data_size (record_text form before (given A cs)) ≡ (head_len form + length (flat_map (λ c. command_text c.now) cs) + 511) / 512
   given_size form before cs =
       let bytes : length (flat_map command_text (given A cs)) ≡ length (flat_map (λ c. command_text c.now) cs) = ap length (given_bytes cs) in
       omega (arith, bytes, length-text form before (given A cs))
 
   -- a head and the commands' bytes after it
-  pub given_text : (form : Form) (before : ℕ) (cs : List (Bor (Asked B))) (count size : ℕ) (head all : List ℕ) → head ≡ big 2 count ++ (first_text (first_of form before) ++ big 4 size) → count ≡ length cs → size ≡ length (flat_map (λ c. command_text c.now) cs)
+  pub given_text : (form : Form) (before : ℕ) (cs : List (Bor (Asked B))) (count size : ℕ) (head all : List ℕ) →
+      head ≡ big 2 count ++ (first_text (first_of form before) ++ big 4 size) → count ≡ length cs →
+      size ≡ length (flat_map (λ c. command_text c.now) cs)
       → all ≡ head ++ flat_map (λ c. command_text c.now) cs → all ≡ record_text form before (given A cs)
   unfolding packed_text
   given_text form before cs count size head all head_is count_is size_is e =
@@ -105,5 +116,6 @@ module _ {B : Type 0} (A : Type 0) where
   given_record cs some few each = record {
     some = rw (given_count cs) some;
     few = rw (given_count cs) few;
-    each = All-map IsCommand (λ (c : Bor (Asked B)). under A c.now) cs (All-weaker (λ (c : Bor (Asked B)). IsCommand c.now) (λ (c : Bor (Asked B)). IsCommand (under A c.now)) (λ c is. is_under c.now is) cs each);
+    each = All-map IsCommand (λ (c : Bor (Asked B)). under A c.now) cs
+        (All-weaker (λ (c : Bor (Asked B)). IsCommand c.now) (λ (c : Bor (Asked B)). IsCommand (under A c.now)) (λ c is. is_under c.now is) cs each);
   }

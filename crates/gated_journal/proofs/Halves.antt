@@ -1,9 +1,11 @@
 -- How a half is read, record by record.
-use Rattle.std.proofs.Common.{cond, eqb, leb, ltb, ◌≡◌, ℕ, zero, suc, ◌-◌, ◌+◌, ◌≤◌, ◌<◌, List, [], ◌∷◌, ◌++◌, length, slice_index, true, false, Bool, Option, Some, None, Result, Ok, Err, refl, sym, ap, ◌∙◌, append_assoc, arith}
+use Rattle.std.proofs.Common.{cond, eqb, leb, ltb, ◌≡◌, ℕ, zero, suc, ◌-◌, ◌+◌, ◌≤◌, ◌<◌, List, [], ◌∷◌, ◌++◌, length, slice_index, true, false, Bool}
+use Rattle.std.proofs.Common.{Option, Some, None, Result, Ok, Err, refl, sym, ap, ◌∙◌, append_assoc, arith}
 use Rattle.std.proofs.lemmas.List.{append-nil}
 use Rattle.std.specs.Prelude.{◌&&◌}
 use Rattle.std.proofs.lemmas.Bool.{ltb-true, leb-true, eqb-true}
 use Rattle.std.proofs.lemmas.Bool.Decides.{nat_tests}
+use Rattle.base.proofs.Bools.{both_true}
 use Rattle.sector_disk.specs.Disk.{sector}
 use Rattle.gated_journal.specs.declared.fault.JournalError.{JournalError}
 use Rattle.gated_journal.specs.declared.fault.JournalError.TheVariants.{JournalFull, DiskFault, Damaged, NoMemory}
@@ -25,11 +27,6 @@ good_cond false s x y e = (refl, e)
 within_cond : {X : Type 0} (b : Bool) (s : ℕ) (x : Result X ℕ) (y : X) → cond b x (Err s) ≡ Ok y → (b ≡ true) × (x ≡ Ok y)
 within_cond true s x y e = (refl, e)
 within_cond false s x y e = absurd cc
-
-and_parts : (a b : Bool) → (a && b) ≡ true → (a ≡ true) × (b ≡ true)
-and_parts true true e = (refl, refl)
-and_parts true false e = absurd cc
-and_parts false b e = absurd cc
 
 pub both : (size next end : ℕ) → size ≤ most_sectors → next < end → (leb size most_sectors && ltb next end) ≡ true
 both size next end few within =
@@ -65,7 +62,7 @@ module _ {A : Type 0} where
       let a = open_cond (eqb (slice_index (sector image at) 0) 1) (cond (eqb (at + 1) end) (Err at) (cond (leb size most_sectors && ltb next end) read (Err (at + 1)))) x e in
       let b = good_cond (eqb (at + 1) end) at (cond (leb size most_sectors && ltb next end) read (Err (at + 1))) (Some x) a.1 in
       let d = within_cond (leb size most_sectors && ltb next end) (at + 1) read (Some x) b.1 in
-      let both = and_parts (leb size most_sectors) (ltb next end) d.0 in
+      let both = both_true (leb size most_sectors) (ltb next end) d.0 in
       let is = found_is (at + 1) next (record_of form before (data_from image (at + 1) (stated_size form (sector image (at + 1))))) x d.1 in
       record { gate = eqb-true _ _ a.0; next_is = is.1; few = leb-true _ _ both.0; within = rw is.1 (ltb-true _ _ both.1); read = is.0 }
 
@@ -76,12 +73,15 @@ module _ {A : Type 0} where
     same_fuel zero g before image at end lt lf lg = absurd (omega (arith, lt, lf))
     same_fuel (suc f) zero before image at end lt lf lg = absurd (omega (arith, lt, lg))
     same_fuel (suc f) (suc g) before image at end lt lf lg =
-        elim (record_at {A = A} form before image at end) as (λ r. record_at form before image at end ≡ r → half_on at r (λ x. half_from f form (before + length x.0) image x.1 end) ≡ half_on at r (λ x. half_from g form (before + length x.0) image x.1 end)) [
+        elim (record_at {A = A} form before image at end) as
+        (λ r. record_at form before image at end ≡ r → half_on at r (λ x. half_from f form (before + length x.0) image x.1 end) ≡ half_on at r
+        (λ x. half_from g form (before + length x.0) image x.1 end)) [
           | Err fault ↦ λ e. refl
           | Ok o ↦ λ e. some_record (λ x. same_fuel f g (before + length x.0) image x.1 end) o e
         ] refl
       where
-        some_record : ((x : List (Asked A) × ℕ) → x.1 < end → end ≤ x.1 + f → end ≤ x.1 + g → half_from {A = A} f form (before + length x.0) image x.1 end ≡ half_from g form (before + length x.0) image x.1 end)
+        some_record : ((x : List (Asked A) × ℕ) → x.1 < end → end ≤ x.1 + f → end ≤ x.1 + g →
+            half_from {A = A} f form (before + length x.0) image x.1 end ≡ half_from g form (before + length x.0) image x.1 end)
             → (o : Option (List (Asked A) × ℕ)) → record_at form before image at end ≡ Ok o
             → half_on at (Ok o) (λ x. half_from f form (before + length x.0) image x.1 end) ≡ half_on at (Ok o) (λ x. half_from g form (before + length x.0) image x.1 end)
         some_record go None e = refl
@@ -94,14 +94,18 @@ module _ {A : Type 0} where
     following before image end x = half_of form (before + length x.0) image x.1 end
 
     goes_same : (f before : ℕ) (image : List (List ℕ)) (at end : ℕ) → at < end → end ≤ at + suc f
-        → half_on {A = A} at (record_at form before image at end) (λ x. half_from f form (before + length x.0) image x.1 end) ≡ half_on at (record_at form before image at end) (following before image end)
+        → half_on {A = A} at (record_at form before image at end) (λ x. half_from f form (before + length x.0) image x.1 end) ≡ half_on at
+        (record_at form before image at end) (following before image end)
     goes_same f before image at end lt le =
-        elim (record_at {A = A} form before image at end) as (λ r. record_at form before image at end ≡ r → half_on at r (λ x. half_from f form (before + length x.0) image x.1 end) ≡ half_on at r (following before image end)) [
+        elim (record_at {A = A} form before image at end) as
+        (λ r. record_at form before image at end ≡ r → half_on at r (λ x. half_from f form (before + length x.0) image x.1 end) ≡ half_on at r
+        (following before image end)) [
           | Err fault ↦ λ e. refl
           | Ok o ↦ λ e. some_record o e
         ] refl
       where
-        some_record : (o : Option (List (Asked A) × ℕ)) → record_at form before image at end ≡ Ok o → half_on at (Ok o) (λ x. half_from f form (before + length x.0) image x.1 end) ≡ half_on at (Ok o) (following before image end)
+        some_record : (o : Option (List (Asked A) × ℕ)) → record_at form before image at end ≡ Ok o →
+            half_on at (Ok o) (λ x. half_from f form (before + length x.0) image x.1 end) ≡ half_on at (Ok o) (following before image end)
         some_record None e = refl
         some_record (Some x) e =
             let is = opened form before image at end x e in
@@ -124,13 +128,16 @@ module _ {A : Type 0} where
   prefix_none (Ok half) = refl
   prefix_none (Err s) = refl
 
-  module _ (form : Form) (before : ℕ) (image : List (List ℕ)) (at end : ℕ) (prefix : List (Entry A)) (total : Half A) (lt : at < end) (so_far : with_prefix prefix (half_of form before image at end) ≡ total) where
+  module _ (form : Form) (before : ℕ) (image : List (List ℕ)) (at end : ℕ) (prefix : List (Entry A)) (total : Half A) (lt : at < end)
+      (so_far : with_prefix prefix (half_of form before image at end) ≡ total) where
     first_is : (r : Found A) → record_at form before image at end ≡ r → half_of form before image at end ≡ half_on at r (following form before image end)
     first_is r e = unrolled form before image at end lt ∙ ap (λ (r : Found A). half_on at r (following form before image end)) e
 
-    pub prefix_more : (commands : List (Asked A)) (next : ℕ) → record_at form before image at end ≡ Ok (Some (commands, next)) → with_prefix (prefix ++ (at + 1, commands) ∷ []) (half_of form (before + length commands) image next end) ≡ total
+    pub prefix_more : (commands : List (Asked A)) (next : ℕ) → record_at form before image at end ≡ Ok (Some (commands, next)) →
+        with_prefix (prefix ++ (at + 1, commands) ∷ []) (half_of form (before + length commands) image next end) ≡ total
     prefix_more commands next e =
-        sym (prefixes_append prefix ((at + 1, commands) ∷ []) (half_of form (before + length commands) image next end)) ∙ ap (with_prefix prefix) (sym (first_is (Ok (Some (commands, next))) e)) ∙ so_far
+        sym (prefixes_append prefix ((at + 1, commands) ∷ []) (half_of form (before + length commands) image next end)) ∙
+        ap (with_prefix prefix) (sym (first_is (Ok (Some (commands, next))) e)) ∙ so_far
 
     pub prefix_closed : record_at {A = A} form before image at end ≡ Ok None → total ≡ Ok (prefix, at)
     prefix_closed e = sym so_far ∙ ap (with_prefix prefix) (first_is (Ok None) e) ∙ ap (λ (entries : List (Entry A)). Ok (entries, at)) (append-nil prefix)

@@ -16,3 +16,4 @@ pub mod Taken
 pub mod TwoHalves
 pub mod Written
 pub mod Zeros
+pub mod Kept

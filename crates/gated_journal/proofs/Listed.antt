@@ -1,5 +1,6 @@
 -- Commands one after the other, and records of them: what is written is read back, and only that.
-use Rattle.std.proofs.Common.{◌≡◌, ℕ, zero, suc, ◌+◌, ◌*◌, ◌<◌, ◌≤◌, Bool, true, false, cond, List, [], ◌∷◌, ◌++◌, length, replicate, Option, option_map, Some, None, Vec, refl, sym, ap, subst, ◌∙◌, arith}
+use Rattle.std.proofs.Common.{◌≡◌, ℕ, zero, suc, ◌+◌, ◌*◌, ◌<◌, ◌≤◌, Bool, true, false, cond, List, [], ◌∷◌, ◌++◌, length, replicate, Option}
+use Rattle.std.proofs.Common.{option_map, Some, None, Vec, refl, sym, ap, subst, ◌∙◌, arith}
 use Rattle.std.specs.Prelude.{IfSome}
 use Rattle.std.specs.Option.{is_some}
 use Rattle.std.specs.List.{All, flat_map}
@@ -29,7 +30,8 @@ module _ {A : Type 0} where
   short_texts : (cs : List (Asked A)) → All IsCommand cs → length (flat_map command_text cs) ≤ longest * length cs
   short_texts [] are = omega arith
   short_texts (c ∷ cs) are =
-      let long : length (flat_map command_text (c ∷ cs)) ≡ length (command_text c) + length (flat_map command_text cs) = ap length (flat_map-cons command_text c cs) ∙ length-append (command_text c) (flat_map command_text cs) in
+      let long : length (flat_map command_text (c ∷ cs)) ≡ length (command_text c) + length (flat_map command_text cs) =
+      ap length (flat_map-cons command_text c cs) ∙ length-append (command_text c) (flat_map command_text cs) in
       omega (arith, long, command_short c (All-head IsCommand c cs are), short_texts cs (All-tail IsCommand c cs are))
 
   -- a record of commands is one of so many bytes
@@ -121,7 +123,8 @@ module _ {A : Type 0} where
       subst (λ (l : List (Asked A)). length l ≡ suc n) all (omega (arith, counts_in n first.1 b.0 b.1))
 
   -- commands that were read of so many
-  pub few_in : (n : ℕ) (bytes : List ℕ) (found : Option (Vec (Asked A) A)) → n ≤ most_commands → option_map (λ commands. commands.items) found ≡ commands_in n bytes → IfSome found (λ commands. length commands.items ≤ most_commands)
+  pub few_in : (n : ℕ) (bytes : List ℕ) (found : Option (Vec (Asked A) A)) → n ≤ most_commands →
+      option_map (λ commands. commands.items) found ≡ commands_in n bytes → IfSome found (λ commands. length commands.items ≤ most_commands)
   few_in n bytes None few e = tt
   few_in n bytes (Some commands) few e = omega (arith, few, counts_in n bytes commands.items (sym e))
 
@@ -140,7 +143,8 @@ none_counted A n bytes is = by_cases (commands_in {A = A} n bytes) is
     by_cases None none = refl
     by_cases (Some cs) none = absurd cc
 
-pub few_counted : (A : Type 0) (n : ℕ) (bytes : List ℕ) (found : Option ℕ) → n ≤ most_commands → found ≡ option_map (λ commands. length commands) (commands_in {A = A} n bytes) → IfSome found (λ count. count ≤ most_commands)
+pub few_counted : (A : Type 0) (n : ℕ) (bytes : List ℕ) (found : Option ℕ) → n ≤ most_commands →
+    found ≡ option_map (λ commands. length commands) (commands_in {A = A} n bytes) → IfSome found (λ count. count ≤ most_commands)
 few_counted A n bytes None few e = tt
 few_counted A n bytes (Some count) few e = by_cases (commands_in {A = A} n bytes) refl e
   where

@@ -21,7 +21,8 @@ closed_as : (old new : List ℕ) → new ≡ old → IsClosed old → IsClosed n
 closed_as old new same closed is = closed (ap (λ (bytes : List ℕ). slice_index bytes 0) (sym same) ∙ is)
 
 -- with one record more, so many are accepted
-pub counted_on : {A : Type 0} (place : Place) (before : ℕ) (entries : List (Entry A)) (commands : List (Asked A)) → counted before entries ≡ place.count → counted before (entries ++ (place.next + 1, commands) ∷ []) ≡ place.count + length commands
+pub counted_on : {A : Type 0} (place : Place) (before : ℕ) (entries : List (Entry A)) (commands : List (Asked A)) →
+    counted before entries ≡ place.count → counted before (entries ++ (place.next + 1, commands) ∷ []) ≡ place.count + length commands
 counted_on place before entries commands counts = counted_more before entries (place.next + 1, commands) ∙ ap (λ (n : ℕ). n + length commands) counts
 
 -- where the record's text follows an open gate, it is read
@@ -31,10 +32,15 @@ IsReadBack place before entries commands text =
     → Opened place.form (counted before entries) image place.next place.end commands (place.next + 1 + data_size text)
 
 -- so is the text of the place's next record
-pub next_read : {A : Type 0} (place : Place) (before : ℕ) (entries : List (Entry A)) (commands : List (Asked A)) (text : List ℕ) → IsNext place commands text → counted before entries ≡ place.count → place.next + data_size text + 2 ≤ place.end → IsReadBack place before entries commands text
-next_read place before entries commands text is counts room image opened are = rw counts (record_written place.form place.count image place.next place.end commands is.number is.record_is text is.text_is opened are (omega (arith, room)))
+pub next_read : {A : Type 0} (place : Place) (before : ℕ) (entries : List (Entry A)) (commands : List (Asked A)) (text : List ℕ) →
+    IsNext place commands text → counted before entries ≡ place.count → place.next + data_size text + 2 ≤ place.end →
+    IsReadBack place before entries commands text
+next_read place before entries commands text is counts room image opened are =
+    rw counts (record_written place.form place.count image place.next place.end commands is.number is.record_is text is.text_is opened are
+    (omega (arith, room)))
 
-module _ {A : Type 0} (place : Place) (before : ℕ) (entries : List (Entry A)) (commands : List (Asked A)) (text : List ℕ) (read : IsReadBack place before entries commands text) (room : place.next + data_size text + 2 ≤ place.end) where
+module _ {A : Type 0} (place : Place) (before : ℕ) (entries : List (Entry A)) (commands : List (Asked A)) (text : List ℕ)
+    (read : IsReadBack place before entries commands text) (room : place.next + data_size text + 2 ≤ place.end) where
   -- two disks are the same in the half, but for its next gate
   abbrev pub SameBut : List (List ℕ) → List (List ℕ) → Type 0
   SameBut sectors image = (k : ℕ) → place.first ≤ k → k < place.end → k ≢ place.next → sector image k ≡ sector sectors k
@@ -45,7 +51,9 @@ module _ {A : Type 0} (place : Place) (before : ℕ) (entries : List (Entry A)) 
     pub after_it : (k : ℕ) → k < data_size text + 1 → sector sectors (place.next + 1 + k) ≡ data_sector text k
 
   -- nothing is torn up to the gate
-  pub following : (was image : List (List ℕ)) → half_of place.form before was place.first place.end ≡ Ok (entries, place.next) → ((k : ℕ) → place.first ≤ k → k ≤ place.next → sector image k ≡ sector was k) → IsWithOrWithout place before entries (place.next + 1, commands) image
+  pub following : (was image : List (List ℕ)) → half_of place.form before was place.first place.end ≡ Ok (entries, place.next) →
+      ((k : ℕ) → place.first ≤ k → k ≤ place.next → sector image k ≡ sector was k) →
+      IsWithOrWithout place before entries (place.next + 1, commands) image
   following was image half same = inl (place.next, same_half place.form before was image place.first place.end entries place.next half same)
 
   -- the gate is open, with the text and a closed gate after it
@@ -55,8 +63,11 @@ module _ {A : Type 0} (place : Place) (before : ℕ) (entries : List (Entry A)) 
       let last : place.next + 1 + data_size text ≡ place.next + (data_size text + 1) = omega arith in
       let not_gate : place.next + 1 + data_size text ≢ place.next = omega arith in
       let after_it : IsClosed (sector image (place.next + 1 + data_size text)) =
-      closed_as (data_sector text (data_size text)) (sector image (place.next + 1 + data_size text)) (same (place.next + 1 + data_size text) (omega (arith, up)) (omega (arith, room)) not_gate ∙ is.after_it (data_size text) (omega arith)) (closed_after text) in
-      let there = read image opened (λ k lt. let other : place.next + 1 + k ≢ place.next = omega arith in same (place.next + 1 + k) (omega (arith, up)) (omega (arith, lt, room)) other ∙ is.after_it k (omega (arith, lt))) in
+      closed_as (data_sector text (data_size text)) (sector image (place.next + 1 + data_size text))
+      (same (place.next + 1 + data_size text) (omega (arith, up)) (omega (arith, room)) not_gate ∙ is.after_it (data_size text) (omega arith))
+      (closed_after text) in
+      let there = read image opened (λ k lt. let other : place.next + 1 + k ≢ place.next = omega arith in
+      same (place.next + 1 + k) (omega (arith, up)) (omega (arith, lt, room)) other ∙ is.after_it k (omega (arith, lt))) in
       rw (← last) (half_more place.form before sectors image place.first place.end entries place.next commands (place.next + 1 + data_size text) (omega (arith, room)) is.chain
       (λ k le lt. let other : k ≢ place.next = omega (arith, lt) in same k le (omega (arith, lt, room)) other) there after_it)
 
@@ -64,5 +75,9 @@ module _ {A : Type 0} (place : Place) (before : ℕ) (entries : List (Entry A)) 
   pub open_or_not : (sectors image : List (List ℕ)) → place.first ≤ place.next → IsStaged sectors → SameBut sectors image → IsWithOrWithout place before entries (place.next + 1, commands) image
   open_or_not sectors image up is same = elim (cases_eq (slice_index (sector image place.next) 0) 1) [
     | inl opened ↦ inr (place.next + (data_size text + 1), with_record sectors image up is same opened)
-    | inr shut ↦ inl (place.next, still_shut place.form before sectors image place.first place.end entries place.next is.chain (λ k le lt. let other : k ≢ place.next = omega (arith, lt) in same k le (omega (arith, lt, room)) other) shut)
+    | inr shut ↦ inl (
+      place.next,
+      still_shut place.form before sectors image place.first place.end entries place.next is.chain
+          (λ k le lt. let other : k ≢ place.next = omega (arith, lt) in same k le (omega (arith, lt, room)) other) shut,
+    )
   ]

@@ -65,7 +65,14 @@ packed_again form commands z is stated =
     let good = all_good (is_in_range count (length body)) (leb (length body) (length (body ++ filling))) (list_all is_zero (drop (length body) (body ++ filling))) (in_range commands is) room zeros in
     let small : count < 256 ^ 2 = omega (arith, is.few) in
     let short : length body < 256 ^ 4 = omega (arith, is.short, is.few) in
-    ap (packed_of form) regrouped ∙ rw (number_again 2 count (number ++ (big 4 (length body) ++ (body ++ filling))) small, first_again form commands.first (big 4 (length body) ++ (body ++ filling)) stated, number_again 4 (length body) (body ++ filling) short, good, take_at body filling (length body) refl) refl
+    ap (packed_of form) regrouped ∙
+    rw (
+      number_again 2 count (number ++ (big 4 (length body) ++ (body ++ filling))) small,
+      first_again form commands.first (big 4 (length body) ++ (body ++ filling)) stated,
+      number_again 4 (length body) (body ++ filling) short,
+      good,
+      take_at body filling (length body) refl,
+    ) refl
 
 -- the number that is written follows
 pub it_follows : (form : Form) (before : ℕ) → follows before (first_of form before) ≡ true
@@ -77,7 +84,8 @@ first_is Plain before small = refl
 first_is Numbered before small = (before + 1, refl, omega (arith, small))
 
 -- how many data sectors it takes is stated by the first of them
-pub stated_bytes : (form : Form) (commands : Packed) → length commands.bytes < 2 ^ 31 → IsFirst form commands.first → stated_size form (packed_text commands) ≡ (length commands.bytes + (511 + head_len form)) / 512
+pub stated_bytes : (form : Form) (commands : Packed) → length commands.bytes < 2 ^ 31 → IsFirst form commands.first →
+    stated_size form (packed_text commands) ≡ (length commands.bytes + (511 + head_len form)) / 512
 unfolding packed_text big
 stated_bytes Plain commands short is = rw is (ap (λ (n : ℕ). (n + 517) / 512) (big_number-reads_back 4 (length commands.bytes) commands.bytes (omega (arith, short))))
 stated_bytes Numbered commands short (n, is, small) = rw is (ap (λ (k : ℕ). (k + 525) / 512) (big_number-reads_back 4 (length commands.bytes) commands.bytes (omega (arith, short))))

@@ -1,5 +1,6 @@
 -- Reading commands one after another, as a loop does, and sectors.
-use Rattle.std.proofs.Common.{add-one, append_assoc, option_map, length, suc, ◌-◌, ◌*◌, ◌∷◌, ◌≢◌, Option, ap, sym, eqb, leb, ltb, slice_index, take, drop, true, false, Bool, ◌⊎◌, Ok, Err, ◌≡◌, ℕ, ◌+◌, ◌≤◌, ◌<◌, List, [], ◌++◌, Some, None, refl, ◌∙◌, arith, inl, inr}
+use Rattle.std.proofs.Common.{add-one, append_assoc, option_map, length, suc, ◌-◌, ◌*◌, ◌∷◌, ◌≢◌, Option, ap, sym, eqb, leb, ltb, slice_index, take}
+use Rattle.std.proofs.Common.{drop, true, false, Bool, ◌⊎◌, Ok, Err, ◌≡◌, ℕ, ◌+◌, ◌≤◌, ◌<◌, List, [], ◌++◌, Some, None, refl, ◌∙◌, arith, inl, inr}
 use Rattle.std.proofs.lemmas.List.{append-nil, get_or-take, get_or-drop}
 use Rattle.std.specs.Prelude.{◌&&◌, ◌==◌}
 use Rattle.std.specs.Option.{is_some}
@@ -40,7 +41,21 @@ not_both : (size next end : ℕ) → (most_sectors < size) ⊎ (end ≤ next) �
 not_both size next end (inl many) = no_and (leb size most_sectors) (ltb next end) (inl (grind (arith, nat_tests)))
 not_both size next end (inr past) = no_and (leb size most_sectors) (ltb next end) (inr (grind (arith, nat_tests)))
 
-pub too_long : (form : Form) (image : List (List ℕ)) (at end size : ℕ) → at + 1 < end → slice_index (sector image at) 0 ≡ 1 → stated_size form (sector image (at + 1)) ≡ size → (most_sectors < size) ⊎ (end ≤ at + 1 + size) → bytes_at form image at end ≡ Err (at + 1)
+pub gate_closed : (form : Form) (image : List (List ℕ)) (at end : ℕ) → slice_index (sector image at) 0 ≢ 1 → bytes_at form image at end ≡ Ok None
+unfolding bytes_at
+gate_closed form image at end closed =
+    let a : eqb (slice_index (sector image at) 0) 1 ≡ false = grind (arith, nat_tests) in
+    rw a refl
+
+pub gate_last : (form : Form) (image : List (List ℕ)) (at end : ℕ) → slice_index (sector image at) 0 ≡ 1 → at + 1 ≡ end → bytes_at form image at end ≡ Err at
+unfolding bytes_at
+gate_last form image at end gate last =
+    let a : eqb (slice_index (sector image at) 0) 1 ≡ true = grind (arith, nat_tests) in
+    let b : eqb (at + 1) end ≡ true = grind (arith, nat_tests) in
+    rw (a, b) refl
+
+pub too_long : (form : Form) (image : List (List ℕ)) (at end size : ℕ) → at + 1 < end → slice_index (sector image at) 0 ≡ 1 →
+    stated_size form (sector image (at + 1)) ≡ size → (most_sectors < size) ⊎ (end ≤ at + 1 + size) → bytes_at form image at end ≡ Err (at + 1)
 unfolding bytes_at
 too_long form image at end size lt gate stated past =
     let a : eqb (slice_index (sector image at) 0) 1 ≡ true = grind (arith, nat_tests) in
@@ -48,7 +63,8 @@ too_long form image at end size lt gate stated past =
     let d : (leb size most_sectors && ltb (at + 1 + size) end) ≡ false = not_both size (at + 1 + size) end past in
     rw (a, b, stated, d) refl
 
-pub bytes_found : (form : Form) (image : List (List ℕ)) (at end size : ℕ) → size ≤ most_sectors → at + 1 + size < end → slice_index (sector image at) 0 ≡ 1 → stated_size form (sector image (at + 1)) ≡ size
+pub bytes_found : (form : Form) (image : List (List ℕ)) (at end size : ℕ) → size ≤ most_sectors → at + 1 + size < end →
+    slice_index (sector image at) 0 ≡ 1 → stated_size form (sector image (at + 1)) ≡ size
     → bytes_at form image at end ≡ Ok (Some (data_from image (at + 1) size, at + 1 + size))
 unfolding bytes_at
 bytes_found form image at end size few lt gate stated =
@@ -71,7 +87,8 @@ number_in at bytes inside =
     let two : slice_index part 2 ≡ slice_index bytes (suc (suc at)) = byte_in at bytes 2 (suc (suc at)) inside (omega arith) (omega arith) in
     let three : slice_index part 3 ≡ slice_index bytes (suc (suc (suc at))) = byte_in at bytes 3 (suc (suc (suc at))) inside (omega arith) (omega arith) in
     let sum : from_be_bytes w32 part ≡ slice_index part 0 * 16777216 + slice_index part 1 * 65536 + slice_index part 2 * 256 + slice_index part 3 = refl in
-    let from : big_from at 4 bytes ≡ slice_index bytes at * 16777216 + (slice_index bytes (suc at) * 65536 + (slice_index bytes (suc (suc at)) * 256 + (slice_index bytes (suc (suc (suc at))) * 1 + 0))) = refl in
+    let from : big_from at 4 bytes ≡ slice_index bytes at * 16777216 +
+    (slice_index bytes (suc at) * 65536 + (slice_index bytes (suc (suc at)) * 256 + (slice_index bytes (suc (suc (suc at))) * 1 + 0))) = refl in
     omega (arith, sum, from, zero, one, two, three)
 
 -- ---- commands
@@ -80,7 +97,8 @@ option_prefix : {X : Type 0} (o : Option (List X)) → option_map (λ others. []
 option_prefix (Some others) = refl
 option_prefix None = refl
 
-option_with_more : {X : Type 0} (prefix : List X) (x : X) (o : Option (List X)) → option_map (λ others. (prefix ++ x ∷ []) ++ others) o ≡ option_map (λ others. prefix ++ others) (o >>= λ others. Some (x ∷ others))
+option_with_more : {X : Type 0} (prefix : List X) (x : X) (o : Option (List X)) →
+    option_map (λ others. (prefix ++ x ∷ []) ++ others) o ≡ option_map (λ others. prefix ++ others) (o >>= λ others. Some (x ∷ others))
 option_with_more prefix x (Some others) = ap Some (append_assoc prefix (x ∷ []) others)
 option_with_more prefix x None = refl
 
@@ -103,12 +121,14 @@ module _ {A : Type 0} where
   commands_fault prefix n bytes all e so_far = rw e at so_far
 
   -- after the last of them: no byte, or others
-  pub commands_end : (prefix : List (Asked A)) (bytes : List ℕ) (all : Option (List (Asked A))) → length bytes ≡ 0 → option_map (λ others. prefix ++ others) (commands_in 0 bytes) ≡ all → Some prefix ≡ all
+  pub commands_end : (prefix : List (Asked A)) (bytes : List ℕ) (all : Option (List (Asked A))) → length bytes ≡ 0 →
+      option_map (λ others. prefix ++ others) (commands_in 0 bytes) ≡ all → Some prefix ≡ all
   unfolding commands_in
   commands_end prefix [] all none so_far = ap Some (sym (append-nil prefix)) ∙ so_far
   commands_end prefix (b ∷ bytes) all none so_far = absurd (omega (arith, none))
 
-  pub commands_past : (prefix : List (Asked A)) (bytes : List ℕ) (all : Option (List (Asked A))) → length bytes ≢ 0 → option_map (λ others. prefix ++ others) (commands_in {A = A} 0 bytes) ≡ all → None ≡ all
+  pub commands_past : (prefix : List (Asked A)) (bytes : List ℕ) (all : Option (List (Asked A))) → length bytes ≢ 0 →
+      option_map (λ others. prefix ++ others) (commands_in {A = A} 0 bytes) ≡ all → None ≡ all
   unfolding commands_in
   commands_past prefix [] all some so_far = absurd (some refl)
   commands_past prefix (b ∷ bytes) all some so_far = so_far

@@ -42,7 +42,8 @@ pub record IsAdding {A : Type 0} (place : Place) (before : ℕ) (entries : List 
   pub read : IsReadBack place before entries commands text
   pub room : place.next + data_size text + 2 ≤ place.end
 
-module _ {A : Type 0} (x y : Place) (before start : ℕ) (entries others : List (Entry A)) (commands : List (Asked A)) (text other : List ℕ) (adds : IsAdding x before entries commands text) (adds_other : IsAdding y start others commands other) (apart : AreApart x y) where
+module _ {A : Type 0} (x y : Place) (before start : ℕ) (entries others : List (Entry A)) (commands : List (Asked A)) (text other : List ℕ)
+    (adds : IsAdding x before entries commands text) (adds_other : IsAdding y start others commands other) (apart : AreApart x y) where
   abbrev pub Left : View → List (List ℕ) → Type 0
   Left old = LeavesBoth old x y before start entries others (x.next + 1, commands) (y.next + 1, commands)
 
@@ -67,30 +68,45 @@ module _ {A : Type 0} (x y : Place) (before start : ℕ) (entries others : List 
         is,
         record {
           count = torn.count;
-          others = λ k out far. torn.others k (beyond x (x.next + 1) (data_size text + 1) settled.begins (omega (arith, up)) (let room = adds.room in omega (arith, room)) k out) (beyond y (y.next + 1) (data_size other + 1) also.begins (omega (arith, up_also)) (let room = adds_other.room in omega (arith, room)) k far);
+          others = λ k out far.
+              torn.others k (beyond x (x.next + 1) (data_size text + 1) settled.begins (omega (arith, up))
+              (let room = adds.room in omega (arith, room)) k out)
+              (beyond y (y.next + 1) (data_size other + 1) also.begins (omega (arith, up_also)) (let room = adds_other.room in omega (arith, room)) k
+              far);
         },
       );
       half = following x before entries commands text adds.read adds.room was image (settled.half was is)
-          (λ k le lt. torn.others k (inl (omega (arith, lt))) (outside x y (y.next + 1) (data_size other + 1) apart (omega (arith, up_also)) (let room = adds_other.room in omega (arith, room)) k le (let within = settled.within in omega (arith, lt, within))));
+          (λ k le lt. torn.others k (inl (omega (arith, lt)))
+          (outside x y (y.next + 1) (data_size other + 1) apart (omega (arith, up_also)) (let room = adds_other.room in omega (arith, room)) k le
+          (let within = settled.within in omega (arith, lt, within))));
       other_half = following y start others commands other adds_other.read adds_other.room was image (also.half was is)
-          (λ k le lt. torn.others k (outside y x (x.next + 1) (data_size text + 1) (swapped x y apart) (omega (arith, up)) (let room = adds.room in omega (arith, room)) k le (let within = also.within in omega (arith, lt, within))) (inl (omega (arith, lt))));
+          (λ k le lt. torn.others k
+          (outside y x (x.next + 1) (data_size text + 1) (swapped x y apart) (omega (arith, up)) (let room = adds.room in omega (arith, room)) k le
+          (let within = also.within in omega (arith, lt, within))) (inl (omega (arith, lt))));
     }
 
-    pub fills : (new : View) (result : Result Unit DiskError) → HasFilledTwice old new (x.next + 1) (data_size text + 1) (data_sector text) (y.next + 1) (data_size other + 1) (data_sector other) result → LeavesOnly old new (Left old)
+    pub fills : (new : View) (result : Result Unit DiskError) → HasFilledTwice old new (x.next + 1) (data_size text + 1) (data_sector text)
+        (y.next + 1) (data_size other + 1) (data_sector other) result → LeavesOnly old new (Left old)
     fills new result has = weaker old new (Texts old) (Left old) has.crash in_texts
 
-    module _ (synced : View) (has : HasFilledTwice old synced (x.next + 1) (data_size text + 1) (data_sector text) (y.next + 1) (data_size other + 1) (data_sector other) (Ok tt)) (durable : (k : ℕ) → synced.pending k ≡ false) where
+    module _ (synced : View)
+        (has : HasFilledTwice old synced (x.next + 1) (data_size text + 1) (data_sector text) (y.next + 1) (data_size other + 1) (data_sector other)
+        (Ok tt)) (durable : (k : ℕ) → synced.pending k ≡ false) where
       staged : IsStaged x before entries commands text adds.read adds.room synced.reads
       staged = record {
         chain = same_half x.form before old.reads synced.reads x.first x.end entries x.next (settled.half old.reads whole)
-            (λ k le lt. has.others k (inl (omega (arith, lt))) (outside x y (y.next + 1) (data_size other + 1) apart (omega (arith, up_also)) (let room = adds_other.room in omega (arith, room)) k le (let within = settled.within in omega (arith, lt, within))));
+            (λ k le lt. has.others k (inl (omega (arith, lt)))
+            (outside x y (y.next + 1) (data_size other + 1) apart (omega (arith, up_also)) (let room = adds_other.room in omega (arith, room)) k le
+            (let within = settled.within in omega (arith, lt, within))));
         after_it = has.written;
       }
 
       staged_also : IsStaged y start others commands other adds_other.read adds_other.room synced.reads
       staged_also = record {
         chain = same_half y.form start old.reads synced.reads y.first y.end others y.next (also.half old.reads whole)
-            (λ k le lt. has.others k (outside y x (x.next + 1) (data_size text + 1) (swapped x y apart) (omega (arith, up)) (let room = adds.room in omega (arith, room)) k le (let within = also.within in omega (arith, lt, within))) (inl (omega (arith, lt))));
+            (λ k le lt. has.others k
+            (outside y x (x.next + 1) (data_size text + 1) (swapped x y apart) (omega (arith, up)) (let room = adds.room in omega (arith, room)) k
+            le (let within = also.within in omega (arith, lt, within))) (inl (omega (arith, lt))));
         after_it = has.also;
       }
 
@@ -111,8 +127,12 @@ module _ {A : Type 0} (x y : Place) (before start : ℕ) (entries others : List 
               whole,
               record {
                 count = torn.count ∙ is.count ∙ has.count;
-                others = λ k out far. same k (beyond x x.next 1 settled.begins up (let within = settled.within in omega (arith, within)) k out) (beyond y y.next 1 also.begins up_also (let within = also.within in omega (arith, within)) k far)
-                    ∙ has.others k (beyond x (x.next + 1) (data_size text + 1) settled.begins (omega (arith, up)) (let room = adds.room in omega (arith, room)) k out) (beyond y (y.next + 1) (data_size other + 1) also.begins (omega (arith, up_also)) (let room = adds_other.room in omega (arith, room)) k far);
+                others = λ k out far. same k (beyond x x.next 1 settled.begins up (let within = settled.within in omega (arith, within)) k out)
+                    (beyond y y.next 1 also.begins up_also (let within = also.within in omega (arith, within)) k far)
+                    ∙ has.others k (beyond x (x.next + 1) (data_size text + 1) settled.begins (omega (arith, up))
+                    (let room = adds.room in omega (arith, room)) k out)
+                    (beyond y (y.next + 1) (data_size other + 1) also.begins (omega (arith, up_also))
+                    (let room = adds_other.room in omega (arith, room)) k far);
               },
             );
             half = open_or_not x before entries commands text adds.read adds.room synced.reads image up staged (same_x image same);
@@ -124,11 +144,14 @@ module _ {A : Type 0} (x y : Place) (before start : ℕ) (entries others : List 
       opens new gate gate_also result wrote = run_on old synced new (Left old) (Gates synced) (fills synced (Ok tt) has) wrote.crash in_gates
 
       -- then the record is in both halves
-      pub at_end : (new : View) (gate gate_also : ℕ → List ℕ) → HasFilledTwice synced new x.next 1 gate y.next 1 gate_also (Ok tt) → ((k : ℕ) → new.pending k ≡ false) → IsOpen (gate 0) → IsOpen (gate_also 0)
-          → IsSettled new (counting (record x { next = x.next + (data_size text + 1) }) commands) before (entries ++ (x.next + 1, commands) ∷ []) × IsSettled new (counting (record y { next = y.next + (data_size other + 1) }) commands) start (others ++ (y.next + 1, commands) ∷ [])
+      pub at_end : (new : View) (gate gate_also : ℕ → List ℕ) → HasFilledTwice synced new x.next 1 gate y.next 1 gate_also (Ok tt) →
+          ((k : ℕ) → new.pending k ≡ false) → IsOpen (gate 0) → IsOpen (gate_also 0)
+          → IsSettled new (counting (record x { next = x.next + (data_size text + 1) }) commands) before (entries ++ (x.next + 1, commands) ∷ []) ×
+          IsSettled new (counting (record y { next = y.next + (data_size other + 1) }) commands) start (others ++ (y.next + 1, commands) ∷ [])
       at_end new gate gate_also wrote rests opened opened_also =
           let each : (image : List (List ℕ)) → IsImageOf new image → (k : ℕ) → sector image k ≡ sector new.reads k = λ image is k. durable_image new rests image is k in
-          let same = λ (image : List (List ℕ)) (is : IsImageOf new image) (k : ℕ) (out : (k < x.next) ⊎ (x.next + 1 ≤ k)) (far : (k < y.next) ⊎ (y.next + 1 ≤ k)). each image is k ∙ wrote.others k out far in
+          let same = λ (image : List (List ℕ)) (is : IsImageOf new image) (k : ℕ) (out : (k < x.next) ⊎ (x.next + 1 ≤ k))
+          (far : (k < y.next) ⊎ (y.next + 1 ≤ k)). each image is k ∙ wrote.others k out far in
           let here : x.next ≡ x.next + 0 = omega arith in
           let here_also : y.next ≡ y.next + 0 = omega arith in
           let there : sector new.reads x.next ≡ gate 0 = ap (λ (k : ℕ). sector new.reads k) here ∙ wrote.written 0 (omega arith) in
@@ -139,33 +162,40 @@ module _ {A : Type 0} (x y : Place) (before start : ℕ) (entries others : List 
               begins = settled.begins;
               within = omega (arith, room);
               counts = counted_on x before entries commands settled.counts;
-              half = λ image is. with_record x before entries commands text adds.read adds.room synced.reads image up staged (same_x image (same image is)) (ap (λ (bytes : List ℕ). slice_index bytes 0) (each image is x.next ∙ there) ∙ opened);
+              half = λ image is. with_record x before entries commands text adds.read adds.room synced.reads image up staged
+                  (same_x image (same image is)) (ap (λ (bytes : List ℕ). slice_index bytes 0) (each image is x.next ∙ there) ∙ opened);
             },
             record {
               begins = also.begins;
               within = omega (arith, room_also);
               counts = counted_on y start others commands also.counts;
-              half = λ image is. with_record y start others commands other adds_other.read adds_other.room synced.reads image up_also staged_also (same_y image (same image is)) (ap (λ (bytes : List ℕ). slice_index bytes 0) (each image is y.next ∙ there_also) ∙ opened_also);
+              half = λ image is. with_record y start others commands other adds_other.read adds_other.room synced.reads image up_also staged_also
+                  (same_y image (same image is)) (ap (λ (bytes : List ℕ). slice_index bytes 0) (each image is y.next ∙ there_also) ∙ opened_also);
             },
           )
 
 -- ---- as it is called
 
-module _ (x y : Place) (text other : List ℕ) (apart : (x.end ≤ y.first) ⊎ (y.end ≤ x.first)) (up : x.first ≤ x.next) (up_also : y.first ≤ y.next) (fits : x.next + data_size text + 2 ≤ x.end) (other_fits : y.next + data_size other + 2 ≤ y.end) where
+module _ (x y : Place) (text other : List ℕ) (apart : (x.end ≤ y.first) ⊎ (y.end ≤ x.first)) (up : x.first ≤ x.next) (up_also : y.first ≤ y.next)
+    (fits : x.next + data_size text + 2 ≤ x.end) (other_fits : y.next + data_size other + 2 ≤ y.end) where
   pub texts_apart : (x.next + 1 + (data_size text + 1) ≤ y.next + 1) ⊎ (y.next + 1 + (data_size other + 1) ≤ x.next + 1)
   texts_apart = elim apart [ inl a ↦ inl (omega (arith, a, fits, up_also)) | inr a ↦ inr (omega (arith, a, other_fits, up)) ]
 
   pub gates_apart : (x.next + 1 ≤ y.next) ⊎ (y.next + 1 ≤ x.next)
   gates_apart = elim apart [ inl a ↦ inl (omega (arith, a, fits, up_also)) | inr a ↦ inr (omega (arith, a, other_fits, up)) ]
 
-pub is_adding : {A : Type 0} (place : Place) (before : ℕ) (entries : List (Entry A)) (commands : List (Asked A)) (text : List ℕ) → IsNext place commands text → counted before entries ≡ place.count → place.next + data_size text + 2 ≤ place.end
+pub is_adding : {A : Type 0} (place : Place) (before : ℕ) (entries : List (Entry A)) (commands : List (Asked A)) (text : List ℕ) →
+    IsNext place commands text → counted before entries ≡ place.count → place.next + data_size text + 2 ≤ place.end
     → IsAdding place before entries commands text
 is_adding place before entries commands text is counts room = record { read = next_read place before entries commands text is counts room; room = room }
 
 module _ (x y : Place) (text other : List ℕ) (up : x.first ≤ x.next) (up_also : y.first ≤ y.next) (fits : x.next + data_size text + 2 ≤ x.end) (other_fits : y.next + data_size other + 2 ≤ y.end) where
   -- all outside both halves reads as before
-  pub elsewhere : (old synced new : View) (bytes more gate gate_also : ℕ → List ℕ) (first result : Result Unit DiskError) → HasFilledTwice old synced (x.next + 1) (data_size text + 1) bytes (y.next + 1) (data_size other + 1) more first → HasFilledTwice synced new x.next 1 gate y.next 1 gate_also result
+  pub elsewhere : (old synced new : View) (bytes more gate gate_also : ℕ → List ℕ) (first result : Result Unit DiskError) →
+      HasFilledTwice old synced (x.next + 1) (data_size text + 1) bytes (y.next + 1) (data_size other + 1) more first →
+      HasFilledTwice synced new x.next 1 gate y.next 1 gate_also result
       → (k : ℕ) → (k < x.first) ⊎ (x.end ≤ k) → (k < y.first) ⊎ (y.end ≤ k) → sector new.reads k ≡ sector old.reads k
   elsewhere old synced new bytes more gate gate_also first result has wrote k out far =
       wrote.others k (beyond_half x x.next 1 up (omega (arith, fits)) k out) (beyond_half y y.next 1 up_also (omega (arith, other_fits)) k far)
-      ∙ has.others k (beyond_half x (x.next + 1) (data_size text + 1) (omega (arith, up)) (omega (arith, fits)) k out) (beyond_half y (y.next + 1) (data_size other + 1) (omega (arith, up_also)) (omega (arith, other_fits)) k far)
+      ∙ has.others k (beyond_half x (x.next + 1) (data_size text + 1) (omega (arith, up)) (omega (arith, fits)) k out)
+      (beyond_half y (y.next + 1) (data_size other + 1) (omega (arith, up_also)) (omega (arith, other_fits)) k far)

@@ -34,7 +34,8 @@ ranges f a (suc b) =
     ∙ append_assoc (map f (range_with_len 0 a)) (map (λ i. f (a + i)) (range_with_len 0 b)) (f (a + b) ∷ [])
     ∙ ap (λ (l : List ℕ). map f (range_with_len 0 a) ++ l) (sym (map-range_with_len_more (λ (i : ℕ). f (a + i)) 0 b b here) ∙ ap (λ (n : ℕ). map (λ (i : ℕ). f (a + i)) (range_with_len 0 n)) one)
 
-data_text : (image : List (List ℕ)) (at n : ℕ) (text : List ℕ) → ((k : ℕ) → k < n → sector image (at + k) ≡ data_sector text k) → data_from image at n ≡ map (slice_index text) (range_with_len 0 (512 * n))
+data_text : (image : List (List ℕ)) (at n : ℕ) (text : List ℕ) → ((k : ℕ) → k < n → sector image (at + k) ≡ data_sector text k) →
+    data_from image at n ≡ map (slice_index text) (range_with_len 0 (512 * n))
 unfolding data_from data_sector
 data_text image at zero text are = refl
 data_text image at (suc n) text are =
@@ -51,7 +52,14 @@ padded text z n e = fill_by_all (slice_index text) (text ++ replicate z 0) n 0 (
 pub length-packed : (cs : Packed) → length (packed_text cs) ≡ 6 + length (first_text cs.first) + length cs.bytes
 unfolding packed_text
 length-packed cs =
-    omega (arith, length-append (big 2 cs.count) (first_text cs.first ++ (big 4 (length cs.bytes) ++ cs.bytes)), length-append (first_text cs.first) (big 4 (length cs.bytes) ++ cs.bytes), length-append (big 4 (length cs.bytes)) cs.bytes, length-big 2 cs.count, length-big 4 (length cs.bytes))
+    omega (
+      arith,
+      length-append (big 2 cs.count) (first_text cs.first ++ (big 4 (length cs.bytes) ++ cs.bytes)),
+      length-append (first_text cs.first) (big 4 (length cs.bytes) ++ cs.bytes),
+      length-append (big 4 (length cs.bytes)) cs.bytes,
+      length-big 2 cs.count,
+      length-big 4 (length cs.bytes),
+    )
 
 -- how long a record's text is
 pub length-text : {A : Type 0} (form : Form) (before : ℕ) (cs : List (Asked A)) → length (record_text form before cs) ≡ head_len form + length (flat_map command_text cs)
@@ -80,7 +88,8 @@ head_most Plain = (omega arith, omega arith)
 head_most Numbered = (omega arith, omega arith)
 
 -- a record's text has a byte, and is not long
-pub text_short : {A : Type 0} (form : Form) (before : ℕ) (cs : List (Asked A)) → IsRecord cs → (6 ≤ length (record_text form before cs)) × (length (record_text form before cs) ≤ 14 + longest * most_commands)
+pub text_short : {A : Type 0} (form : Form) (before : ℕ) (cs : List (Asked A)) → IsRecord cs → (6 ≤ length (record_text form before cs)) ×
+    (length (record_text form before cs) ≤ 14 + longest * most_commands)
 text_short form before cs is =
     let packed = fits form before cs is in
     let most = head_most form in
@@ -92,7 +101,9 @@ next_short place cs text is =
     (omega (arith, ap length is.text_is, short.0), omega (arith, ap length is.text_is, short.1))
 
 -- the data sectors of a record after an open gate are read
-pub record_written : {A : Type 0} (form : Form) (before : ℕ) (image : List (List ℕ)) (at end : ℕ) (cs : List (Asked A)) → before < last_number → IsRecord cs → (text : List ℕ) → text ≡ record_text form before cs → IsOpen (sector image at) → ((k : ℕ) → k < data_size text → sector image (at + 1 + k) ≡ data_sector text k)
+pub record_written : {A : Type 0} (form : Form) (before : ℕ) (image : List (List ℕ)) (at end : ℕ) (cs : List (Asked A)) → before < last_number →
+    IsRecord cs → (text : List ℕ) → text ≡ record_text form before cs → IsOpen (sector image at) →
+    ((k : ℕ) → k < data_size text → sector image (at + 1 + k) ≡ data_sector text k)
     → at + 1 + data_size text < end → Opened form before image at end cs (at + 1 + data_size text)
 record_written form before image at end cs small is text text_is opened are within =
     let packed = fits form before cs is in
@@ -101,7 +112,8 @@ record_written form before image at end cs small is text text_is opened are with
     let here : at + 1 + 0 ≡ at + 1 = omega arith in
     let first : sector image (at + 1) ≡ data_sector text 0 = rw here at (are 0 (omega (arith, long, short.0))) in
     let stated : stated_size form (sector image (at + 1)) ≡ (length (flat_map command_text cs) + (511 + head_len form)) / 512 =
-    ap (stated_size form) first ∙ stated_sector form text ∙ ap (stated_size form) text_is ∙ stated_bytes form (pack form before cs) (omega (arith, packed.short, packed.few)) (first_is form before small) in
+    ap (stated_size form) first ∙ stated_sector form text ∙ ap (stated_size form) text_is ∙
+    stated_bytes form (pack form before cs) (omega (arith, packed.short, packed.few)) (first_is form before small) in
     let size : stated_size form (sector image (at + 1)) ≡ data_size text = stated ∙ omega (arith, long, length-text form before cs) in
     let few : data_size text ≤ most_sectors = omega (arith, long, short.1) in
     let z = 512 * data_size text - length text in

@@ -1,3 +1,5 @@
 pub mod Filling
 pub mod Next
 pub mod Room
+pub mod Reading
+pub mod Adding

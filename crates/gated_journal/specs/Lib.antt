@@ -5,3 +5,5 @@ pub mod Record
 pub mod Settled
 pub mod Twice
 pub mod Inside
+pub mod Adding
+pub mod Laws

@@ -1,10 +1,11 @@
 -- What the calls that read a half answer.
-use Rattle.std.specs.Prelude.{◌≡◌, ℕ, List, length, map, option_map, Option, Some, None, Result, Ok, Err, Vec}
+use Rattle.std.specs.Prelude.{◌≡◌, ◌⊎◌, ◌+◌, ◌-◌, ◌<◌, ◌≤◌, ℕ, List, length, map, option_map, IfNone, IfOk, IfSome, Option, Some, None, Result, Ok, Err, Vec}
 use Rattle.identity.specs.Numbers.{Byte}
 use Rattle.centre_core.specs.Asked.{Asked}
 use Rattle.sector_disk.specs.Numbers.{Sector}
 use Rattle.sector_disk.specs.Disk.{View}
-use Rattle.gated_journal.specs.Half.{Entry, Found, Half, half_of, record_at}
+use Rattle.gated_journal.specs.Half.{Entry, Found, Half, counted, half_of, record_at}
+use Rattle.gated_journal.specs.Settled.{IsCounted, half_in}
 use Rattle.gated_journal.specs.declared.form.Form.{Form}
 use Rattle.gated_journal.specs.declared.place.Place.{Place}
 use Rattle.gated_journal.specs.declared.record.Record.{Record}
@@ -22,6 +23,20 @@ Fails JournalFull is = ⊥
 abbrev pub Answers : {X Y : Type 0} → (X → Y) → Result X JournalError → Result Y Sector → Type 0
 Answers view (Ok x) is = is ≡ Ok (view x)
 Answers view (Err e) is = Fails e is
+
+-- an error that a call which reads answers; a damaged sector lies before the end of the half
+abbrev pub IsOfReading : Sector → JournalError → Type 0
+IsOfReading end JournalFull = ⊥
+IsOfReading end DiskFault = Unit {0}
+IsOfReading end (Damaged at) = at < end
+IsOfReading end NoMemory = Unit {0}
+
+-- an error that a call which judges answers: it takes no memory
+abbrev pub IsOfJudging : Sector → JournalError → Type 0
+IsOfJudging end JournalFull = ⊥
+IsOfJudging end DiskFault = Unit {0}
+IsOfJudging end (Damaged at) = at < end
+IsOfJudging end NoMemory = ⊥
 
 module _ {A : Type 0} where
   -- what was read at a gate: nothing, or a record's commands and the next gate
@@ -45,6 +60,32 @@ module _ {A : Type 0} where
   abbrev pub next_view : Sector → Option (Sector × Vec (Asked A) A) → Option (List (Asked A) × Sector)
   next_view gate found = option_map (λ x. (x.1.items, gate)) found
 
+  -- the records from a gate on, and the closed gate after them, at which the place or the journal is then
+  abbrev pub half_view : Place × Vec (Sector × Vec (Asked A) A) A → List (Entry A) × Sector
+  half_view x = (entries_view x.1.items, x.0.next)
+
+  -- ---- where a journal is after what was read
+
+  -- a place in the same half, after these records
+  pub record Continues (place after : Place) (entries : List (Entry A)) : Type 0 where
+    pub first : after.first ≡ place.first
+    pub end : after.end ≡ place.end
+    pub form : after.form ≡ place.form
+    pub up : place.next ≤ after.next
+    pub within : after.next < place.end
+    pub count : after.count ≡ counted place.count entries
+
+  -- A journal moves on to the gate after the record that was read, and stays where there is none.
+  pub record MovesOn (place after : Place) (result : Result (Option (Sector × Vec (Asked A) A)) JournalError) : Type 0 where
+    pub at : IfOk result (λ found. IfSome found (λ x. (x.0 ≡ place.next + 1) × (x.0 < after.next)))
+    pub first : after.first ≡ place.first
+    pub end : after.end ≡ place.end
+    pub form : after.form ≡ place.form
+    pub count : IfOk result (λ found. IfSome found (λ x. after.count ≡ place.count + length x.1.items))
+    pub counted : IsCounted after
+    pub next : after.next < place.end
+    pub closed : IfOk result (λ found. IfNone found (after ≡ place))
+
   -- ---- what is judged and not kept
 
   -- a record of so many commands is there, with this next gate; or nothing is
@@ -58,6 +99,10 @@ module _ {A : Type 0} where
   AreJudged (Ok u) is = (held : List (Entry A) × Sector) × (is ≡ Ok held)
   AreJudged (Err e) is = Fails e is
 
+-- so many calls of the disk were made
+abbrev pub HasCalledTimes : View → View → ℕ → Type 0
+HasCalledTimes old new times = length new.calls ≡ length old.calls + times
+
 -- ---- where memory may run out
 
 -- a record is at the gate, after so many accepted commands
@@ -68,10 +113,18 @@ HasRecord A form before image at end = (x : List (Asked A) × Sector) × (record
 abbrev pub HasRecords : Type 0 → Form → ℕ → List (List Byte) → Sector → Sector → Type 0
 HasRecords A form before image at end = (held : List (Entry A) × Sector) × (half_of form before image at end ≡ Ok held)
 
--- the same at the next gate of a place, as the disk reads
+-- a record is at the next gate of a place, as the disk reads
 abbrev pub HasRecordIn : Type 0 → Place → View → Type 0
 HasRecordIn A place disk = HasRecord A place.form place.count disk.reads place.next place.end
 
--- the same from that gate on
+-- from the next gate of a place on there are records alone, up to a closed one, as the disk reads
 abbrev pub HasRecordsIn : Type 0 → Place → View → Type 0
 HasRecordsIn A place disk = HasRecords A place.form place.count disk.reads place.next place.end
+
+-- nothing was read, or from the next gate of a place on there are records alone
+abbrev pub IsUnreadOrWhole : Type 0 → Place → View → View → Type 0
+IsUnreadOrWhole A place old new = (new.calls ≡ old.calls) ⊎ HasRecordsIn A place old
+
+-- Each sector of the records from the next gate of a place on is read once, and that of the closed gate after them.
+abbrev pub IsReadOnce : Type 0 → Place → View → View → Type 0
+IsReadOnce A place old new = (held : List (Entry A) × Sector) → half_in A place old ≡ Ok held → HasCalledTimes old new (held.1 + 1 - place.next)

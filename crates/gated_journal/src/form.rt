@@ -1,5 +1,6 @@
 // The form of a journal's records.
-ghost use Rattle.std.specs.Prelude.{◌≡◌, ◌+◌, ◌<◌, ◌^◌};
+ghost use Rattle.std.specs.Prelude.{◌≡◌, ◌<◌};
+ghost use Rattle.centre_core.specs.State.{last_number};
 ghost use Rattle.gated_journal.specs.Record.{first_of, head_len};
 
 /// The form of the records in a half of a disk. The first sector of the side's image states it.
@@ -24,7 +25,7 @@ impl Form {
 
     // The number that a record states, after so many accepted commands.
     pub(crate) fn first_of(self, before: u64) -> Option<u64>
-        requires { before + 1 < 2 ^ 64 }
+        requires { before < last_number }
         ensures { result ≡ first_of self before }
     {
         match self {

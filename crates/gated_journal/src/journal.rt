@@ -1,24 +1,21 @@
 // A journal: a place on a disk, and a buffer for the records' bytes.
-ghost use Rattle.std.specs.Prelude.{◌≡◌, ◌⊎◌, ◌<◌, ◌≤◌, ◌+◌, ◌*◌, ◌^◌, ◌-◌, ℕ, List, ◌++◌, Err, IfErr, IfNone, IfOk, IfSome, IsErrOf, OnErr, OnOk};
-ghost use Rattle.std.specs.Prelude.{length, false, nat_le};
+ghost use Rattle.std.specs.Prelude.{◌≡◌, ◌⊎◌, ◌<◌, ◌≤◌, ◌+◌, ◌*◌, ◌^◌, ◌-◌, ℕ, ◌++◌, Err, IfErr, IfOk, IsErr, IsErrOf, IfSome, OnErr, OnOk};
+ghost use Rattle.std.specs.Prelude.{length, nat_le};
 ghost use Rattle.std.specs.List.{All, flat_map};
 ghost use Rattle.centre_core.specs.State.{last_number};
 ghost use Rattle.command_bytes.specs.Fields.{big};
 ghost use Rattle.command_bytes.specs.Text.{IsCommand, command_text, longest};
-ghost use Rattle.sector_disk.specs.Disk.{HasFailed};
-ghost use Rattle.sector_disk.specs.Reading.{before_reads};
-ghost use Rattle.sector_disk.specs.Run.{HasCalled, HasMade, HasOnlyRead, IsSameOutside, LeavesOnly};
-ghost use Rattle.gated_journal.specs.declared.fault.JournalError.TheVariants.{DiskFault, Damaged, JournalFull, NoMemory};
+ghost use Rattle.sector_disk.specs.Effects.{KeepsDisk, OnlyReads};
+ghost use Rattle.gated_journal.specs.declared.fault.JournalError.TheVariants.{DiskFault, JournalFull, NoMemory};
 ghost use Rattle.gated_journal.specs.declared.form.Form.{Form};
 ghost use Rattle.gated_journal.specs.declared.place.Place.{Place};
-ghost use Rattle.gated_journal.specs.Calls.{append_both_calls, append_calls};
-ghost use Rattle.gated_journal.specs.Half.{Entry, counted};
-ghost use Rattle.gated_journal.specs.Inside.Next.{IsNext};
+ghost use Rattle.gated_journal.specs.Adding.{AddsOne, AddsToBoth, IsOfAppend};
+ghost use Rattle.gated_journal.specs.Inside.Next.{IsCountOfNext, IsNext};
 ghost use Rattle.gated_journal.specs.Inside.Room.{capacity};
-ghost use Rattle.gated_journal.specs.Reading.{Answers, AreJudged, HasRecordIn, HasRecordsIn, entries_view, next_view};
+ghost use Rattle.gated_journal.specs.Reading.{Answers, AreJudged, Continues, HasCalledTimes, HasRecordIn, IsOfJudging, IsOfReading, IsUnreadOrWhole, MovesOn};
+ghost use Rattle.gated_journal.specs.Reading.{IsReadOnce, entries_view, half_view, next_view};
 ghost use Rattle.gated_journal.specs.Record.{data_size, first_text, given, most_commands, most_sectors, record_text};
-ghost use Rattle.gated_journal.specs.Settled.{HasOneMore, HaveOneMore, IsCounted, IsSameOutsideBoth, IsSettled, Leaves, LeavesBoth};
-ghost use Rattle.gated_journal.specs.Settled.{following_given, half_in, new_entry, record_in, room_of, text_at};
+ghost use Rattle.gated_journal.specs.Settled.{IsCounted, half_in, record_in, room_of, text_at};
 
 use crate::both::append_texts;
 use crate::place::sectors_for;
@@ -135,33 +132,16 @@ impl<A: Allocator> Journal<A> {
         requires few { length commands.now ≤ most_commands }
         requires counts { self.old.count + length commands.now ≤ last_number }
 
-        // A stop at any moment of the call leaves the records from before it, with the new one whole or without it. All
-        // other sectors are as they were.
-        ensures any_moment { (before : ℕ) (entries : List (Entry A)) → (D.view disk.old).honest → IsSettled (D.view disk.old) self.old before entries
-            → LeavesOnly (D.view disk.old) (D.view disk.new) (Leaves (D.view disk.old) self.old before entries (new_entry A self.old commands.now)) }
-
-        // At `Ok` each stop leaves it, nothing is pending, and all outside the half reads as it did.
-        ensures acknowledged { OnOk result ((before : ℕ) (entries : List (Entry A)) → (D.view disk.old).honest
-            → IsSettled (D.view disk.old) self.old before entries → HasOneMore (D.view disk.new) self.new before entries (new_entry A self.old commands.now)) }
-        ensures durable { (D.view disk.old).honest → OnOk result ((k : ℕ) → (D.view disk.new).pending k ≡ false) }
-        ensures elsewhere { (D.view disk.old).honest → OnOk result (IsSameOutside self.old.first self.old.end (D.view disk.old) (D.view disk.new)) }
-        ensures next { OnOk result (self.new ≡ following_given A self.old commands.now) }
-
-        // Each data sector and each gate is written once, with two syncs, and nothing is read. A call that fails is the last.
-        ensures calls { OnOk result (HasCalled (D.view disk.old) (D.view disk.new) (append_calls self.old.next (text_at A self.old commands.now))) }
-        ensures some_calls { HasMade (D.view disk.old) (D.view disk.new) (append_calls self.old.next (text_at A self.old commands.now)) }
+        // A stop leaves the records with the new one whole or without it. At `Ok` each stop leaves it, and the journal goes on after it.
+        ensures adds { AddsOne A (D.view disk.old) (D.view disk.new) self.old self.new commands.now result }
+        ensures same { OnErr result (self.new ≡ self.old) }
+        ensures keeps { KeepsDisk (D.view disk.old) (D.view disk.new) (IsErrOf result JournalError.DiskFault) }
 
         // It does not give up by itself.
-        ensures fault { IsErrOf result JournalError.DiskFault → HasFailed (D.view disk.old) (D.view disk.new) }
+        ensures kinds { IfErr result IsOfAppend }
         ensures full { IsErrOf result JournalError.JournalFull → room_of self.old < data_size (text_at A self.old commands.now) }
         ensures no_room { room_of self.old < data_size (text_at A self.old commands.now)
             → (result ≡ Err JournalError.JournalFull) × (disk.new ≡ disk.old) }
-        ensures same { OnErr result (self.new ≡ self.old) }
-        ensures damaged { (s : ℕ) → IsErrOf result (JournalError.Damaged s) → ⊥ }
-        ensures memory { IsErrOf result JournalError.NoMemory → ⊥ }
-        ensures sectors { (D.view disk.new).sectors ≡ (D.view disk.old).sectors }
-        ensures later { (D.view disk.old).failures ≤ (D.view disk.new).failures }
-        ensures honest { (D.view disk.old).honest → (D.view disk.new).honest }
     {
         put_record(&mut self.text, &self.place, commands);
         self.place.append_text::<A, D>(disk, self.text.as_slice())?;
@@ -181,8 +161,7 @@ impl<A: Allocator> Journal<A> {
         other: &mut Journal<A>,
         commands: &[&Command<B>],
     ) -> Result<(), JournalError>
-        requires within { self.old.end ≤ (D.view disk.old).sectors }
-        requires other_within { other.old.end ≤ (D.view disk.old).sectors }
+        requires within { (self.old.end ≤ (D.view disk.old).sectors) × (other.old.end ≤ (D.view disk.old).sectors) }
         requires apart { (self.old.end ≤ other.old.first) ⊎ (other.old.end ≤ self.old.first) }
         requires some { 1 ≤ length commands.now }
         requires few { length commands.now ≤ most_commands }
@@ -191,35 +170,14 @@ impl<A: Allocator> Journal<A> {
         requires counts { self.old.count + length commands.now ≤ last_number }
         requires other_counts { other.old.count + length commands.now ≤ last_number }
 
-        // A stop at any moment of the call leaves, in each of the two halves, the records from before it, with the new one
-        // whole or without it. All other sectors are as they were.
-        ensures any_moment { (before start : ℕ) (entries others : List (Entry A)) → (D.view disk.old).honest
-            → IsSettled (D.view disk.old) self.old before entries → IsSettled (D.view disk.old) other.old start others
-            → LeavesOnly (D.view disk.old) (D.view disk.new) (LeavesBoth (D.view disk.old) self.old other.old
-            before start entries others (new_entry A self.old commands.now) (new_entry A other.old commands.now)) }
-
-        // At `Ok` each stop leaves it in both, nothing is pending, and all outside the two halves reads as it did.
-        ensures acknowledged { OnOk result ((before start : ℕ) (entries others : List (Entry A)) → (D.view disk.old).honest
-            → IsSettled (D.view disk.old) self.old before entries → IsSettled (D.view disk.old) other.old start others
-            → HaveOneMore (D.view disk.new) self.new other.new
-            before start entries others (new_entry A self.old commands.now) (new_entry A other.old commands.now)) }
-        ensures durable { (D.view disk.old).honest → OnOk result ((k : ℕ) → (D.view disk.new).pending k ≡ false) }
-        ensures elsewhere { (D.view disk.old).honest → OnOk result (IsSameOutsideBoth self.old other.old (D.view disk.old) (D.view disk.new)) }
-        ensures next { OnOk result (self.new ≡ following_given A self.old commands.now) }
-        ensures other_next { OnOk result (other.new ≡ following_given A other.old commands.now) }
-
-        // Each data sector and each gate is written once, with two syncs, and nothing is read. A call that fails is the last.
-        ensures calls { OnOk result (HasCalled (D.view disk.old) (D.view disk.new)
-            (append_both_calls self.old.next (text_at A self.old commands.now) other.old.next (text_at A other.old commands.now))) }
-        ensures some_calls { HasMade (D.view disk.old) (D.view disk.new)
-            (append_both_calls self.old.next (text_at A self.old commands.now) other.old.next (text_at A other.old commands.now)) }
+        // In each half a stop leaves the records with the new one whole or without it. At `Ok` each stop leaves it in both, and each
+        // journal goes on after it.
+        ensures adds { AddsToBoth A (D.view disk.old) (D.view disk.new) self.old self.new other.old other.new commands.now result }
+        ensures same { OnErr result ((self.new ≡ self.old) × (other.new ≡ other.old)) }
+        ensures keeps { KeepsDisk (D.view disk.old) (D.view disk.new) (IsErr result) }
 
         // It does not give up by itself.
-        ensures fault { IfErr result (λ e. (e ≡ JournalError.DiskFault) × HasFailed (D.view disk.old) (D.view disk.new)) }
-        ensures same { OnErr result ((self.new ≡ self.old) × (other.new ≡ other.old)) }
-        ensures sectors { (D.view disk.new).sectors ≡ (D.view disk.old).sectors }
-        ensures later { (D.view disk.old).failures ≤ (D.view disk.new).failures }
-        ensures honest { (D.view disk.old).honest → (D.view disk.new).honest }
+        ensures kinds { IfErr result (λ e. e ≡ JournalError.DiskFault) }
     {
         put_record(&mut self.text, &self.place, commands);
         put_record(&mut other.text, &other.place, commands);
@@ -249,18 +207,10 @@ impl<A: Allocator> Journal<A> {
         ensures exact { (D.view disk.old).honest → AreJudged result (half_in A self.old (D.view disk.old)) }
         ensures same { self.new ≡ self.old }
 
-        // It only reads.
-        ensures only_read { (D.view disk.old).honest → HasOnlyRead (D.view disk.old) (D.view disk.new) }
-        ensures only_reads { before_reads (D.view disk.new).calls ≡ before_reads (D.view disk.old).calls }
-        ensures honest { (D.view disk.old).honest → (D.view disk.new).honest }
-        ensures sectors { (D.view disk.new).sectors ≡ (D.view disk.old).sectors }
-
-        // It does not give up by itself.
-        ensures later { (D.view disk.old).failures ≤ (D.view disk.new).failures }
-        ensures fault { IsErrOf result JournalError.DiskFault → HasFailed (D.view disk.old) (D.view disk.new) }
-        ensures damaged { (s : ℕ) → IsErrOf result (JournalError.Damaged s) → s < self.old.end }
-        ensures full { IsErrOf result JournalError.JournalFull → ⊥ }
-        ensures memory { IsErrOf result JournalError.NoMemory → ⊥ }
+        // It only reads, and does not give up by itself.
+        ensures reads { OnlyReads (D.view disk.old) (D.view disk.new) (IsErrOf result JournalError.DiskFault) }
+        ensures calls { (D.view disk.old).honest → OnOk result (IsReadOnce A self.old (D.view disk.old) (D.view disk.new)) }
+        ensures kinds { IfErr result (IsOfJudging self.old.end) }
     {
         judge_half(disk, &self.place, &mut self.text)
     }
@@ -284,28 +234,16 @@ impl<A: Allocator + Clone> Journal<A> {
         ensures exact { (D.view disk.old).honest → Answers (next_view self.new.next) result (record_in A self.old (D.view disk.old)) }
         ensures memory { IsErrOf result JournalError.NoMemory → (D.view disk.old).honest → HasRecordIn A self.old (D.view disk.old) }
 
-        // It only reads.
-        ensures only_read { (D.view disk.old).honest → HasOnlyRead (D.view disk.old) (D.view disk.new) }
-        ensures only_reads { before_reads (D.view disk.new).calls ≡ before_reads (D.view disk.old).calls }
-        ensures honest { (D.view disk.old).honest → (D.view disk.new).honest }
-
         // It moves on to the gate after the record, and stays where there is no record, or where it fails.
-        ensures at { IfOk result (λ found. IfSome found (λ x. (x.0 ≡ self.old.next + 1) × (x.0 < self.new.next))) }
-        ensures first { self.new.first ≡ self.old.first }
-        ensures end { self.new.end ≡ self.old.end }
-        ensures form { self.new.form ≡ self.old.form }
-        ensures count { IfOk result (λ found. IfSome found (λ x. self.new.count ≡ self.old.count + length x.1.items)) }
-        ensures counted { IsCounted self.new }
-        ensures next { self.new.next < self.old.end }
-        ensures closed { IfOk result (λ found. IfNone found (self.new ≡ self.old)) }
+        ensures moves { MovesOn self.old self.new result }
         ensures same { OnErr result (self.new ≡ self.old) }
 
-        // It does not give up by itself.
-        ensures sectors { (D.view disk.new).sectors ≡ (D.view disk.old).sectors }
-        ensures later { (D.view disk.old).failures ≤ (D.view disk.new).failures }
-        ensures fault { IsErrOf result JournalError.DiskFault → HasFailed (D.view disk.old) (D.view disk.new) }
-        ensures damaged { (s : ℕ) → IsErrOf result (JournalError.Damaged s) → s < self.old.end }
-        ensures full { IsErrOf result JournalError.JournalFull → ⊥ }
+        // It only reads, and does not give up by itself. Each sector of a record is read once.
+        ensures reads { OnlyReads (D.view disk.old) (D.view disk.new) (IsErrOf result JournalError.DiskFault) }
+        ensures calls { IfOk result (λ found. IfSome found (λ x.
+            HasCalledTimes (D.view disk.old) (D.view disk.new) (self.new.next - self.old.next))) }
+        ensures tried { IsErrOf result JournalError.NoMemory → length (D.view disk.old).calls < length (D.view disk.new).calls }
+        ensures kinds { IfErr result (IsOfReading self.old.end) }
     {
         let at = self.place.next;
         let Some((commands, next)) = read_record(alloc, disk, &self.place, &mut self.text)? else {
@@ -333,25 +271,16 @@ impl<A: Allocator + Copy> Journal<A> {
         requires counts { IsCounted place }
 
         // It returns the records that the disk reads as. Out of memory never masks damage.
-        ensures exact { (D.view disk.old).honest → Answers (λ x. (entries_view x.1.items, x.0.next)) result (half_in A place (D.view disk.old)) }
+        ensures exact { (D.view disk.old).honest → Answers half_view result (half_in A place (D.view disk.old)) }
         ensures memory { IsErrOf result JournalError.NoMemory → (D.view disk.old).honest
-            → ((D.view disk.new).calls ≡ (D.view disk.old).calls) ⊎ HasRecordsIn A place (D.view disk.old) }
-
-        // It only reads.
-        ensures only_read { (D.view disk.old).honest → HasOnlyRead (D.view disk.old) (D.view disk.new) }
-        ensures only_reads { before_reads (D.view disk.new).calls ≡ before_reads (D.view disk.old).calls }
-        ensures honest { (D.view disk.old).honest → (D.view disk.new).honest }
+            → IsUnreadOrWhole A place (D.view disk.old) (D.view disk.new) }
 
         // The journal continues after the records.
-        ensures place { IfOk result (λ x. (x.0.first ≡ place.first) × (x.0.end ≡ place.end) × (x.0.form ≡ place.form) × (x.0.next < place.end)) }
-        ensures count { IfOk result (λ x. x.0.count ≡ counted place.count (entries_view x.1.items)) }
+        ensures continues { IfOk result (λ x. Continues place x.0 (entries_view x.1.items)) }
 
-        // It does not give up by itself.
-        ensures sectors { (D.view disk.new).sectors ≡ (D.view disk.old).sectors }
-        ensures later { (D.view disk.old).failures ≤ (D.view disk.new).failures }
-        ensures fault { IsErrOf result JournalError.DiskFault → HasFailed (D.view disk.old) (D.view disk.new) }
-        ensures damaged { (s : ℕ) → IsErrOf result (JournalError.Damaged s) → s < place.end }
-        ensures full { IsErrOf result JournalError.JournalFull → ⊥ }
+        // It only reads, and does not give up by itself.
+        ensures reads { OnlyReads (D.view disk.old) (D.view disk.new) (IsErrOf result JournalError.DiskFault) }
+        ensures kinds { IfErr result (IsOfReading place.end) }
     {
         let mut text = RecordText::with_room(alloc, MOST_SECTORS as usize * 512)?;
         let (place, entries) = read_or_judge(alloc, disk, &place, &mut text)?;
@@ -361,7 +290,7 @@ impl<A: Allocator + Copy> Journal<A> {
 
 // How many bytes the commands take.
 fn size_of<B: Allocator>(commands: &[&Command<B>]) -> usize
-    requires few { length commands.now ≤ most_commands }
+    requires small { longest * length commands.now < 2 ^ 32 }
     ensures size { result ≡ length (flat_map (λ command. command_text command.now) commands.now) }
     ensures most { result ≤ longest * length commands.now }
 {
@@ -407,9 +336,7 @@ fn put_record<A: Allocator, B: Allocator>(
     commands: &[&Command<B>],
 )
     requires room { 512 * most_sectors ≤ capacity out.old }
-    requires number { place.now.count < last_number }
-    requires some { 1 ≤ length commands.now }
-    requires few { length commands.now ≤ most_commands }
+    requires next { IsCountOfNext place.now (length commands.now) }
     ensures items { out.new.items ≡ text_at A place.now commands.now }
     ensures next { IsNext place.now (given A commands.now) out.new.items }
     ensures capacity { 512 * most_sectors ≤ capacity out.new }

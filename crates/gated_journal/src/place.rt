@@ -1,16 +1,15 @@
 // Where a journal is on its disk, and how a record is written there.
-ghost use Rattle.std.specs.Prelude.{◌≡◌, ◌+◌, ◌-◌, ◌*◌, ◌<◌, ◌≤◌, ◌^◌, ℕ, List, ◌++◌, Err, drop, length, replicate, false, IsErr, IsErrOf, OnOk, OnErr};
-ghost use Rattle.sector_disk.specs.Disk.{HasFailed};
-ghost use Rattle.sector_disk.specs.Run.{HasCalled, HasMade, IsSameOutside, LeavesOnly, writes};
+ghost use Rattle.std.specs.Prelude.{◌≡◌, ◌+◌, ◌-◌, ◌*◌, ◌<◌, ◌≤◌, ◌^◌, ℕ, ◌++◌, Err, IfErr, drop, length, replicate, false, IsErrOf, OnOk, OnErr};
+ghost use Rattle.sector_disk.specs.Effects.{KeepsDisk};
+ghost use Rattle.sector_disk.specs.Run.{writes};
 ghost use Rattle.sector_disk.specs.Filling.{HasFilled};
-ghost use Rattle.sector_disk.specs.declared.disk.DiskError.TheVariants.{OutOfRange};
-ghost use Rattle.gated_journal.specs.declared.fault.JournalError.TheVariants.{DiskFault, Damaged, JournalFull, NoMemory};
-ghost use Rattle.gated_journal.specs.Calls.{append_calls, settled_calls};
-ghost use Rattle.gated_journal.specs.Half.{Entry};
-ghost use Rattle.gated_journal.specs.Inside.Next.{IsNext, counting};
-ghost use Rattle.centre_core.specs.Asked.{Asked};
+ghost use Rattle.gated_journal.specs.declared.fault.JournalError.TheVariants.{DiskFault, JournalFull};
+ghost use Rattle.gated_journal.specs.Adding.{IsOfAppend};
+ghost use Rattle.gated_journal.specs.Calls.{settled_calls};
+ghost use Rattle.gated_journal.specs.Inside.Adding.{AddsText};
+ghost use Rattle.gated_journal.specs.Inside.Filling.{Runs};
 ghost use Rattle.gated_journal.specs.Record.{data_sector, data_size, sectors_for};
-ghost use Rattle.gated_journal.specs.Settled.{HasOneMore, IsSettled, Leaves, room_of};
+ghost use Rattle.gated_journal.specs.Settled.{room_of};
 
 use crate::{Form, JournalError};
 use sector_disk::{Disk, DiskError};
@@ -45,38 +44,20 @@ impl Place {
         disk: &mut D,
         text: &[u8],
     ) -> Result<(), JournalError>
-        requires within { self.old.end ≤ (D.view disk.old).sectors }
+        requires end { self.old.end ≤ (D.view disk.old).sectors }
         requires up { self.old.first ≤ self.old.next }
         requires some { 0 < length text.now }
         requires small { length text.now < 2 ^ 32 }
 
-        // A stop at any moment of the call leaves the records from before it, with the new one or without.
-        ensures any_moment { (before : ℕ) (entries : List (Entry A)) (commands : List (Asked A))
-            → IsNext self.old commands text.now → (D.view disk.old).honest → IsSettled (D.view disk.old) self.old before entries
-            → LeavesOnly (D.view disk.old) (D.view disk.new) (Leaves (D.view disk.old) self.old before entries (self.old.next + 1, commands)) }
-
-        // At `Ok` each stop leaves it, nothing is pending, and all outside the half reads as it did.
-        ensures acknowledged { OnOk result ((before : ℕ) (entries : List (Entry A)) (commands : List (Asked A))
-            → IsNext self.old commands text.now → (D.view disk.old).honest → IsSettled (D.view disk.old) self.old before entries
-            → HasOneMore (D.view disk.new) (counting self.new commands) before entries (self.old.next + 1, commands)) }
-        ensures durable { (D.view disk.old).honest → OnOk result ((k : ℕ) → (D.view disk.new).pending k ≡ false) }
-        ensures elsewhere { (D.view disk.old).honest → OnOk result (IsSameOutside self.old.first self.old.end (D.view disk.old) (D.view disk.new)) }
-        ensures next { OnOk result (self.new ≡ record (self.old) { next = self.old.next + data_size text.now + 1 }) }
-
-        // Each data sector and each gate is written once, with two syncs, and nothing is read. A call that fails is the last.
-        ensures calls { OnOk result (HasCalled (D.view disk.old) (D.view disk.new) (append_calls self.old.next text.now)) }
-        ensures some_calls { HasMade (D.view disk.old) (D.view disk.new) (append_calls self.old.next text.now) }
+        // A stop leaves the records with the new one or without. At `Ok` each stop leaves it.
+        ensures adds { AddsText A (D.view disk.old) (D.view disk.new) self.old self.new text.now result }
+        ensures same { OnErr result (self.new ≡ self.old) }
+        ensures keeps { KeepsDisk (D.view disk.old) (D.view disk.new) (IsErrOf result JournalError.DiskFault) }
 
         // It does not give up by itself.
-        ensures fault { IsErrOf result JournalError.DiskFault → HasFailed (D.view disk.old) (D.view disk.new) }
-        ensures sectors { (D.view disk.new).sectors ≡ (D.view disk.old).sectors }
-        ensures later { (D.view disk.old).failures ≤ (D.view disk.new).failures }
+        ensures kinds { IfErr result IsOfAppend }
         ensures full { IsErrOf result JournalError.JournalFull → room_of self.old < data_size text.now }
         ensures no_room { room_of self.old < data_size text.now → (result ≡ Err JournalError.JournalFull) × (disk.new ≡ disk.old) }
-        ensures same { OnErr result (self.new ≡ self.old) }
-        ensures damaged { (s : ℕ) → IsErrOf result (JournalError.Damaged s) → ⊥ }
-        ensures memory { IsErrOf result JournalError.NoMemory → ⊥ }
-        ensures honest { (D.view disk.old).honest → (D.view disk.new).honest }
     {
         let size = sectors_for(text.len() as u64);
         if self.room() < size {
@@ -131,12 +112,7 @@ pub(crate) fn fill<D: Disk>(disk: &mut D, at: u64, n: u64, text: &[u8]) -> Resul
     requires fits { at + n < 2 ^ 64 }
     requires small { n < 2 ^ 32 }
     ensures effect { (D.view disk.old).honest → HasFilled (D.view disk.old) (D.view disk.new) at n (data_sector text.now) result }
-    ensures calls { OnOk result (HasCalled (D.view disk.old) (D.view disk.new) (writes at n (data_sector text.now))) }
-    ensures some_calls { HasMade (D.view disk.old) (D.view disk.new) (writes at n (data_sector text.now)) }
-    ensures sectors { (D.view disk.new).sectors ≡ (D.view disk.old).sectors }
-    ensures later { (D.view disk.old).failures ≤ (D.view disk.new).failures }
-    ensures fault { IsErr result → HasFailed (D.view disk.old) (D.view disk.new) }
-    ensures in_range { IsErrOf result OutOfRange → ⊥ }
+    ensures runs { Runs (D.view disk.old) (D.view disk.new) (writes at n (data_sector text.now)) result }
 {
     for k in 0..n {
         disk.write(at + k, &sector_of(text, k as usize))?;
@@ -151,12 +127,7 @@ fn settle<D: Disk>(disk: &mut D, at: u64, n: u64, text: &[u8]) -> Result<(), Dis
     requires small { n < 2 ^ 32 }
     ensures effect { (D.view disk.old).honest → HasFilled (D.view disk.old) (D.view disk.new) at n (data_sector text.now) result }
     ensures durable { (D.view disk.old).honest → OnOk result ((k : ℕ) → (D.view disk.new).pending k ≡ false) }
-    ensures calls { OnOk result (HasCalled (D.view disk.old) (D.view disk.new) (settled_calls at n text.now)) }
-    ensures some_calls { HasMade (D.view disk.old) (D.view disk.new) (settled_calls at n text.now) }
-    ensures sectors { (D.view disk.new).sectors ≡ (D.view disk.old).sectors }
-    ensures later { (D.view disk.old).failures ≤ (D.view disk.new).failures }
-    ensures fault { IsErr result → HasFailed (D.view disk.old) (D.view disk.new) }
-    ensures in_range { IsErrOf result OutOfRange → ⊥ }
+    ensures runs { Runs (D.view disk.old) (D.view disk.new) (settled_calls at n text.now) result }
 {
     fill(disk, at, n, text)?;
     disk.sync()

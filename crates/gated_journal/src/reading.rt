@@ -2,18 +2,17 @@
 //
 // `judge_record` and `judge_half` go through a half as `read_record` and `read_half` do, but keep no command. Their contracts
 // differ (`IsJudged` in place of `Answers`, and no `NoMemory`), so they are functions of their own.
-ghost use Rattle.std.specs.Prelude.{◌≡◌, ◌+◌, ◌*◌, ◌-◌, ◌<◌, ◌≤◌, ◌^◌, ℕ, length, IsErr, IsErrOf, OnOk, IfOk, IfSome, option_map};
+ghost use Rattle.std.specs.Prelude.{◌≡◌, ◌+◌, ◌*◌, ◌-◌, ◌<◌, ◌≤◌, ◌^◌, length, option_map, IfErr, IsErr, IsErrOf, OnOk, IfOk, IfSome};
 ghost use Rattle.byteorder.specs.Endian.{big_from};
-ghost use Rattle.sector_disk.specs.Disk.{HasFailed};
-ghost use Rattle.sector_disk.specs.Reading.{before_reads};
-ghost use Rattle.sector_disk.specs.Run.{HasOnlyRead};
+ghost use Rattle.sector_disk.specs.Effects.{OnlyReads};
 ghost use Rattle.sector_disk.specs.declared.disk.DiskError.TheVariants.{OutOfRange};
-ghost use Rattle.gated_journal.specs.declared.fault.JournalError.TheVariants.{DiskFault, JournalFull, Damaged, NoMemory};
-ghost use Rattle.gated_journal.specs.Half.{bytes_at, counted, data_from, stated_size};
+ghost use Rattle.gated_journal.specs.declared.fault.JournalError.TheVariants.{NoMemory};
+ghost use Rattle.gated_journal.specs.Half.{stated_size};
+ghost use Rattle.gated_journal.specs.Inside.Reading.{GivesBytes, HoldsMore, IsPast, IsToRead, Reads, sectors_to};
 ghost use Rattle.gated_journal.specs.Inside.Room.{capacity};
-ghost use Rattle.gated_journal.specs.Reading.{Answers, AreJudged, HasRecordIn, HasRecordsIn, IsJudged, entries_view, found_view};
-ghost use Rattle.gated_journal.specs.Record.{most_commands, most_sectors};
-ghost use Rattle.gated_journal.specs.Settled.{IsCounted, half_in, record_in};
+ghost use Rattle.gated_journal.specs.Reading.{Answers, AreJudged, Continues, HasCalledTimes, HasRecordIn, HasRecordsIn, IsJudged, IsOfJudging, IsOfReading, IsReadOnce};
+ghost use Rattle.gated_journal.specs.Reading.{entries_view, found_view, half_view};
+ghost use Rattle.gated_journal.specs.Settled.{half_in, record_in};
 
 use crate::record::{count_next, decode_next};
 use crate::record_text::RecordText;
@@ -27,7 +26,6 @@ use std::alloc::Allocator;
 pub(crate) const MOST_SECTORS: u64 = 36;
 
 // Adds the bytes of a run's sectors, from the one numbered `from` up to n. The buffer has room for them.
-#[tactic(auto, using(sector_disk::proofs::Reading::one_read))]
 fn read_sectors<A: Allocator, D: Disk>(
     disk: &mut D,
     at: u64,
@@ -39,12 +37,9 @@ fn read_sectors<A: Allocator, D: Disk>(
     requires fits { at + n < 2 ^ 64 }
     requires some { from ≤ n }
     requires room { length buffer.old.items + 512 * (n - from) ≤ capacity buffer.old }
-    ensures effect { (D.view disk.old).honest → HasOnlyRead (D.view disk.old) (D.view disk.new)
-        × OnOk result (buffer.old.items ≡ data_from (D.view disk.old).reads at from → buffer.new.items ≡ data_from (D.view disk.old).reads at n) }
-    ensures only_reads { before_reads (D.view disk.new).calls ≡ before_reads (D.view disk.old).calls }
-    ensures sectors { (D.view disk.new).sectors ≡ (D.view disk.old).sectors }
-    ensures later { (D.view disk.old).failures ≤ (D.view disk.new).failures }
-    ensures fault { IsErr result → HasFailed (D.view disk.old) (D.view disk.new) }
+    ensures reads { OnlyReads (D.view disk.old) (D.view disk.new) (IsErr result) }
+    ensures calls { OnOk result (HasCalledTimes (D.view disk.old) (D.view disk.new) (n - from)) }
+    ensures bytes { (D.view disk.old).honest → OnOk result (HoldsMore (D.view disk.old) at from n buffer.old buffer.new) }
     ensures in_range { IsErrOf result OutOfRange → ⊥ }
     ensures capacity { capacity buffer.old ≤ capacity buffer.new }
 {
@@ -77,27 +72,17 @@ fn stated_size(form: Form, bytes: &[u8; 512]) -> u64
 
 // Reads the data sectors of the record after an open gate into the buffer, and returns the next gate; `None` where the gate is
 // closed. Takes no memory.
-#[tactic(auto, unfolding(crate::specs::Half::bytes_at), using(sector_disk::proofs::Reading::one_read))]
 fn read_data<A: Allocator, D: Disk>(
     disk: &mut D,
     place: &Place,
     buffer: &mut RecordText<A>,
 ) -> Result<Option<u64>, JournalError>
-    requires before { place.now.next < place.now.end }
-    requires within { place.now.end ≤ (D.view disk.old).sectors }
-    requires room { 512 * most_sectors ≤ capacity buffer.old }
-    ensures effect { (D.view disk.old).honest → HasOnlyRead (D.view disk.old) (D.view disk.new)
-        × Answers (λ found. option_map (λ next. (buffer.new.items, next)) found) result
-        (bytes_at place.now.form (D.view disk.old).reads place.now.next place.now.end) }
-    ensures only_reads { before_reads (D.view disk.new).calls ≡ before_reads (D.view disk.old).calls }
-    ensures sectors { (D.view disk.new).sectors ≡ (D.view disk.old).sectors }
-    ensures later { (D.view disk.old).failures ≤ (D.view disk.new).failures }
-    ensures fault { IsErrOf result JournalError.DiskFault → HasFailed (D.view disk.old) (D.view disk.new) }
-    ensures on { IfOk result (λ found. IfSome found (λ next. (place.now.next + 1 < next) × (next < place.now.end))) }
-    ensures damaged { (s : ℕ) → IsErrOf result (JournalError.Damaged s) → s < place.now.end }
-    ensures full { IsErrOf result JournalError.JournalFull → ⊥ }
-    ensures memory { IsErrOf result JournalError.NoMemory → ⊥ }
-    ensures capacity { capacity buffer.old ≤ capacity buffer.new }
+    requires gate { IsToRead (D.view disk.old) place.now buffer.old }
+    ensures reads { Reads (D.view disk.old) (D.view disk.new) buffer.old buffer.new result
+        (GivesBytes (D.view disk.old) place.now buffer.new result) }
+    ensures calls { IfOk result (λ found. HasCalledTimes (D.view disk.old) (D.view disk.new) (sectors_to place.now found)) }
+    ensures on { IfOk result (λ found. IfSome found (λ next. IsPast place.now 0 next)) }
+    ensures kinds { IfErr result (IsOfJudging place.now.end) }
 {
     let at = place.next;
     let mut bytes = [0; 512];
@@ -129,21 +114,14 @@ pub(crate) fn read_record<A: Allocator + Clone, D: Disk>(
     place: &Place,
     buffer: &mut RecordText<A>,
 ) -> Result<Option<(Vec<Command<A>, A>, u64)>, JournalError>
-    requires before { place.now.next < place.now.end }
-    requires within { place.now.end ≤ (D.view disk.old).sectors }
-    requires counts { IsCounted place.now }
-    requires room { 512 * most_sectors ≤ capacity buffer.old }
-    ensures effect { (D.view disk.old).honest → HasOnlyRead (D.view disk.old) (D.view disk.new)
-        × Answers found_view result (record_in A place.now (D.view disk.old)) }
-    ensures only_reads { before_reads (D.view disk.new).calls ≡ before_reads (D.view disk.old).calls }
+    requires gate { IsToRead (D.view disk.old) place.now buffer.old }
+    ensures reads { Reads (D.view disk.old) (D.view disk.new) buffer.old buffer.new result
+        (Answers found_view result (record_in A place.now (D.view disk.old))) }
     ensures memory { IsErrOf result JournalError.NoMemory → (D.view disk.old).honest → HasRecordIn A place.now (D.view disk.old) }
-    ensures sectors { (D.view disk.new).sectors ≡ (D.view disk.old).sectors }
-    ensures later { (D.view disk.old).failures ≤ (D.view disk.new).failures }
-    ensures fault { IsErrOf result JournalError.DiskFault → HasFailed (D.view disk.old) (D.view disk.new) }
-    ensures on { IfOk result (λ found. IfSome found (λ x. (place.now.next + 1 < x.1) × (x.1 < place.now.end) × (length x.0.items ≤ most_commands))) }
-    ensures damaged { (s : ℕ) → IsErrOf result (JournalError.Damaged s) → s < place.now.end }
-    ensures full { IsErrOf result JournalError.JournalFull → ⊥ }
-    ensures capacity { capacity buffer.old ≤ capacity buffer.new }
+    ensures calls { IfOk result (λ found. HasCalledTimes (D.view disk.old) (D.view disk.new) (sectors_to place.now (option_map (λ x. x.1) found))) }
+    ensures tried { IsErrOf result JournalError.NoMemory → length (D.view disk.old).calls < length (D.view disk.new).calls }
+    ensures on { IfOk result (λ found. IfSome found (λ x. IsPast place.now (length x.0.items) x.1)) }
+    ensures kinds { IfErr result (IsOfReading place.now.end) }
 {
     let Some(next) = read_data(disk, place, buffer)? else {
         return Ok(None);
@@ -160,21 +138,12 @@ fn judge_record<A: Allocator, D: Disk>(
     place: &Place,
     buffer: &mut RecordText<A>,
 ) -> Result<Option<(u64, u64)>, JournalError>
-    requires before { place.now.next < place.now.end }
-    requires within { place.now.end ≤ (D.view disk.old).sectors }
-    requires counts { IsCounted place.now }
-    requires room { 512 * most_sectors ≤ capacity buffer.old }
-    ensures effect { (D.view disk.old).honest → HasOnlyRead (D.view disk.old) (D.view disk.new)
-        × IsJudged result (record_in A place.now (D.view disk.old)) }
-    ensures only_reads { before_reads (D.view disk.new).calls ≡ before_reads (D.view disk.old).calls }
-    ensures sectors { (D.view disk.new).sectors ≡ (D.view disk.old).sectors }
-    ensures later { (D.view disk.old).failures ≤ (D.view disk.new).failures }
-    ensures fault { IsErrOf result JournalError.DiskFault → HasFailed (D.view disk.old) (D.view disk.new) }
-    ensures on { IfOk result (λ found. IfSome found (λ x. (place.now.next + 1 < x.1) × (x.1 < place.now.end) × (x.0 ≤ most_commands))) }
-    ensures damaged { (s : ℕ) → IsErrOf result (JournalError.Damaged s) → s < place.now.end }
-    ensures full { IsErrOf result JournalError.JournalFull → ⊥ }
-    ensures memory { IsErrOf result JournalError.NoMemory → ⊥ }
-    ensures capacity { capacity buffer.old ≤ capacity buffer.new }
+    requires gate { IsToRead (D.view disk.old) place.now buffer.old }
+    ensures reads { Reads (D.view disk.old) (D.view disk.new) buffer.old buffer.new result
+        (IsJudged result (record_in A place.now (D.view disk.old))) }
+    ensures calls { IfOk result (λ found. HasCalledTimes (D.view disk.old) (D.view disk.new) (sectors_to place.now (option_map (λ x. x.1) found))) }
+    ensures on { IfOk result (λ found. IfSome found (λ x. IsPast place.now x.0 x.1)) }
+    ensures kinds { IfErr result (IsOfJudging place.now.end) }
 {
     let Some(next) = read_data(disk, place, buffer)? else {
         return Ok(None);
@@ -192,22 +161,11 @@ fn read_half<A: Allocator + Clone, D: Disk>(
     place: &Place,
     buffer: &mut RecordText<A>,
 ) -> Result<(Place, Vec<(u64, Vec<Command<A>, A>), A>), JournalError>
-    requires some { place.now.next < place.now.end }
-    requires within { place.now.end ≤ (D.view disk.old).sectors }
-    requires counts { IsCounted place.now }
-    requires room { 512 * most_sectors ≤ capacity buffer.old }
-    ensures exact { (D.view disk.old).honest → Answers (λ x. (entries_view x.1.items, x.0.next)) result (half_in A place.now (D.view disk.old)) }
-    ensures only_read { (D.view disk.old).honest → HasOnlyRead (D.view disk.old) (D.view disk.new) }
-    ensures only_reads { before_reads (D.view disk.new).calls ≡ before_reads (D.view disk.old).calls }
-    ensures place { IfOk result (λ x. (x.0.first ≡ place.now.first) × (x.0.end ≡ place.now.end) × (x.0.form ≡ place.now.form)
-        × (place.now.next ≤ x.0.next) × (x.0.next < place.now.end)) }
-    ensures count { IfOk result (λ x. x.0.count ≡ counted place.now.count (entries_view x.1.items)) }
-    ensures sectors { (D.view disk.new).sectors ≡ (D.view disk.old).sectors }
-    ensures later { (D.view disk.old).failures ≤ (D.view disk.new).failures }
-    ensures fault { IsErrOf result JournalError.DiskFault → HasFailed (D.view disk.old) (D.view disk.new) }
-    ensures damaged { (s : ℕ) → IsErrOf result (JournalError.Damaged s) → s < place.now.end }
-    ensures full { IsErrOf result JournalError.JournalFull → ⊥ }
-    ensures capacity { capacity buffer.old ≤ capacity buffer.new }
+    requires half { IsToRead (D.view disk.old) place.now buffer.old }
+    ensures reads { Reads (D.view disk.old) (D.view disk.new) buffer.old buffer.new result
+        (Answers half_view result (half_in A place.now (D.view disk.old))) }
+    ensures continues { IfOk result (λ x. Continues place.now x.0 (entries_view x.1.items)) }
+    ensures kinds { IfErr result (IsOfReading place.now.end) }
 {
     let mut entries = Vec::new(alloc.clone()?);
     let mut rest = *place;
@@ -225,20 +183,11 @@ pub(crate) fn judge_half<A: Allocator, D: Disk>(
     place: &Place,
     buffer: &mut RecordText<A>,
 ) -> Result<(), JournalError>
-    requires some { place.now.next < place.now.end }
-    requires within { place.now.end ≤ (D.view disk.old).sectors }
-    requires counts { IsCounted place.now }
-    requires room { 512 * most_sectors ≤ capacity buffer.old }
-    ensures exact { (D.view disk.old).honest → AreJudged result (half_in A place.now (D.view disk.old)) }
-    ensures only_read { (D.view disk.old).honest → HasOnlyRead (D.view disk.old) (D.view disk.new) }
-    ensures only_reads { before_reads (D.view disk.new).calls ≡ before_reads (D.view disk.old).calls }
-    ensures sectors { (D.view disk.new).sectors ≡ (D.view disk.old).sectors }
-    ensures later { (D.view disk.old).failures ≤ (D.view disk.new).failures }
-    ensures fault { IsErrOf result JournalError.DiskFault → HasFailed (D.view disk.old) (D.view disk.new) }
-    ensures damaged { (s : ℕ) → IsErrOf result (JournalError.Damaged s) → s < place.now.end }
-    ensures full { IsErrOf result JournalError.JournalFull → ⊥ }
-    ensures memory { IsErrOf result JournalError.NoMemory → ⊥ }
-    ensures capacity { capacity buffer.old ≤ capacity buffer.new }
+    requires half { IsToRead (D.view disk.old) place.now buffer.old }
+    ensures reads { Reads (D.view disk.old) (D.view disk.new) buffer.old buffer.new result
+        (AreJudged result (half_in A place.now (D.view disk.old))) }
+    ensures calls { (D.view disk.old).honest → OnOk result (IsReadOnce A place.now (D.view disk.old) (D.view disk.new)) }
+    ensures kinds { IfErr result (IsOfJudging place.now.end) }
 {
     let mut rest = *place;
     while let Some((count, next)) = judge_record(disk, &rest, buffer)? {
@@ -255,23 +204,12 @@ pub(crate) fn read_or_judge<A: Allocator + Clone, D: Disk>(
     place: &Place,
     buffer: &mut RecordText<A>,
 ) -> Result<(Place, Vec<(u64, Vec<Command<A>, A>), A>), JournalError>
-    requires some { place.now.next < place.now.end }
-    requires within { place.now.end ≤ (D.view disk.old).sectors }
-    requires counts { IsCounted place.now }
-    requires room { 512 * most_sectors ≤ capacity buffer.old }
-    ensures exact { (D.view disk.old).honest → Answers (λ x. (entries_view x.1.items, x.0.next)) result (half_in A place.now (D.view disk.old)) }
+    requires half { IsToRead (D.view disk.old) place.now buffer.old }
+    ensures reads { Reads (D.view disk.old) (D.view disk.new) buffer.old buffer.new result
+        (Answers half_view result (half_in A place.now (D.view disk.old))) }
     ensures memory { IsErrOf result JournalError.NoMemory → (D.view disk.old).honest → HasRecordsIn A place.now (D.view disk.old) }
-    ensures only_read { (D.view disk.old).honest → HasOnlyRead (D.view disk.old) (D.view disk.new) }
-    ensures only_reads { before_reads (D.view disk.new).calls ≡ before_reads (D.view disk.old).calls }
-    ensures place { IfOk result (λ x. (x.0.first ≡ place.now.first) × (x.0.end ≡ place.now.end) × (x.0.form ≡ place.now.form)
-        × (place.now.next ≤ x.0.next) × (x.0.next < place.now.end)) }
-    ensures count { IfOk result (λ x. x.0.count ≡ counted place.now.count (entries_view x.1.items)) }
-    ensures sectors { (D.view disk.new).sectors ≡ (D.view disk.old).sectors }
-    ensures later { (D.view disk.old).failures ≤ (D.view disk.new).failures }
-    ensures fault { IsErrOf result JournalError.DiskFault → HasFailed (D.view disk.old) (D.view disk.new) }
-    ensures damaged { (s : ℕ) → IsErrOf result (JournalError.Damaged s) → s < place.now.end }
-    ensures full { IsErrOf result JournalError.JournalFull → ⊥ }
-    ensures capacity { capacity buffer.old ≤ capacity buffer.new }
+    ensures continues { IfOk result (λ x. Continues place.now x.0 (entries_view x.1.items)) }
+    ensures kinds { IfErr result (IsOfReading place.now.end) }
 {
     match read_half(alloc, disk, place, buffer) {
         Err(JournalError::NoMemory) => {

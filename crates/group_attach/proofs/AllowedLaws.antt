@@ -7,6 +7,8 @@ use Rattle.std.specs.Ordering.{eq_by_cmp}
 use Rattle.std.specs.FinMap as finite
 use Rattle.std.specs.FinMap.{find}
 use mathlib.Core.Bool.{false≢true}
+use Rattle.base.proofs.Bools.{cond_same}
+use Rattle.base.proofs.Options.{none_there}
 use borrow.Author.Tests.{ltb-false, eqb-true}
 use Rattle.mm_pdus.specs.declared.update.LocationUpdateType.{LocationUpdateType}
 use Rattle.mm_pdus.specs.declared.group.GroupMode.{GroupMode}
@@ -26,14 +28,8 @@ use Rattle.group_attach.proofs.Pairs.{pairs_total, pairs_exact, pairs_tied, alik
 use Rattle.group_attach.proofs.Filtered.{entries_passing, entries_retained, fewer}
 use Rattle.group_attach.proofs.Endings.{passing_usage, get_passing}
 
-both_alike : {A : Type 0} (b : Bool) (x : A) → cond b x x ≡ x
-both_alike true x = refl
-both_alike false x = refl
-
-none_there : {A : Type 0} {o : Option A} → o ≡ None → IsSome o → ⊥
-none_there e there = false≢true (sym (ap is_some e) ∙ there)
-
-found_first : {A : Type 0} (q : Pair) (b : Bool) (e : Pair × A) (es : List (Pair × A)) → find pair_cmp q (cond b (e ∷ es) es) ≡ cond b (cond (eq_by_cmp pair_cmp q e.0) (Some e.1) (find pair_cmp q es)) (find pair_cmp q es)
+found_first : {A : Type 0} (q : Pair) (b : Bool) (e : Pair × A) (es : List (Pair × A)) →
+    find pair_cmp q (cond b (e ∷ es) es) ≡ cond b (cond (eq_by_cmp pair_cmp q e.0) (Some e.1) (find pair_cmp q es)) (find pair_cmp q es)
 found_first q true e es = refl
 found_first q false e es = refl
 
@@ -47,7 +43,9 @@ at_other false x y same = refl
 
 -- what an answer without a refusal says
 few : (there : Bool) (n : ℕ) → first_of ((if there then None else Some NotAttached) ∷ crowd_refusal n ∷ []) ≡ None → n ≤ most_of_radio
-few true n unrefused = (elim (nat_lt most_of_radio n) as (λ b. nat_lt most_of_radio n ≡ b → (if b then Some TooManyGroups else None) ≡ None → n ≤ most_of_radio) [ true ↦ λ e is. absurd cc | false ↦ λ e is. ltb-false most_of_radio n e ]) refl unrefused
+few true n unrefused =
+    (elim (nat_lt most_of_radio n) as (λ b. nat_lt most_of_radio n ≡ b → (if b then Some TooManyGroups else None) ≡ None → n ≤ most_of_radio)
+    [ true ↦ λ e is. absurd cc | false ↦ λ e is. ltb-false most_of_radio n e ]) refl unrefused
 few false n unrefused = absurd cc
 
 present : (there : Bool) (n : ℕ) → first_of ((if there then None else Some NotAttached) ∷ crowd_refusal n ∷ []) ≡ None → there ≡ true
@@ -65,7 +63,7 @@ no_groups_fit itsi =
     ap finite.len (finite.same_map pairs_total pairs_exact (of_radio no_groups itsi) no_groups (λ q.
     finite.get-retain_keys no_groups (λ pair. pair.0 == itsi) q (alike (λ pair. pair.0 == itsi) q)
     ∙ ap (λ o. cond (q.0 == itsi) o None) (finite.get-empty pair_cmp q)
-    ∙ both_alike (q.0 == itsi) None
+    ∙ cond_same (q.0 == itsi) None
     ∙ sym (finite.get-empty pair_cmp q)))
     ∙ finite.len-empty pair_cmp Usage in
     omega (arith, none)
@@ -85,7 +83,9 @@ part_fits m test fit itsi =
 found_in_part : (q : Pair) (test : Pair × Usage → Bool) (es : List (Pair × Usage)) → IsSome (find pair_cmp q (filter test es)) → IsSome (find pair_cmp q es)
 found_in_part q test [] there = there
 found_in_part q test (e ∷ es) there =
-    (elim (eq_by_cmp pair_cmp q e.0) as (λ b. IsSome (cond (test e) (cond b (Some e.1) (find pair_cmp q (filter test es))) (find pair_cmp q (filter test es))) → IsSome (cond b (Some e.1) (find pair_cmp q es))) [
+    (elim (eq_by_cmp pair_cmp q e.0) as
+    (λ b. IsSome (cond (test e) (cond b (Some e.1) (find pair_cmp q (filter test es))) (find pair_cmp q (filter test es))) →
+    IsSome (cond b (Some e.1) (find pair_cmp q es))) [
       | true ↦ λ h. refl
       | false ↦ λ h. found_in_part q test es (in_rest (test e) (find pair_cmp q (filter test es)) h)
     ]) (subst IsSome (found_first q (test e) e (filter test es)) there)
@@ -104,7 +104,8 @@ pub after_update_known : (s : Registered) (m : Attached) (itsi : ℕ) (update : 
 after_update_known s m itsi update known = part_known s m (λ e. not ((e.0.0 == itsi) && is_dropped update e.1.1)) known
 
 -- one of a radio that is not known ends nothing
-not_of_new : (s : Registered) (m : Attached) (itsi : ℕ) (update : LocationUpdateType) (q : Pair) (o : Option Usage) → finite.get m q ≡ o → AreKnown s m → has_radio s itsi ≡ false → passing_usage (λ e. not ((e.0.0 == itsi) && is_dropped update e.1.1)) q o ≡ o
+not_of_new : (s : Registered) (m : Attached) (itsi : ℕ) (update : LocationUpdateType) (q : Pair) (o : Option Usage) → finite.get m q ≡ o →
+    AreKnown s m → has_radio s itsi ≡ false → passing_usage (λ e. not ((e.0.0 == itsi) && is_dropped update e.1.1)) q o ≡ o
 unfolding passing_usage
 not_of_new s m itsi update q None at known new = refl
 not_of_new s m itsi update q (Some usage) at known new =
@@ -161,14 +162,16 @@ part_of_other itsi other m n apart same =
     ∙ sym (finite.get-retain_keys m (λ pair. pair.0 == other) q (alike (λ pair. pair.0 == other) q)))
 
 -- a group PDU that is not refused
-pub applied_fits : (s : Registered) (m : Attached) (itsi : ℕ) (mode : GroupMode) (items : List GroupUp) → apply_refusal s m itsi mode items ≡ None → AllGroupsFit m → AllGroupsFit (applied s m itsi mode items)
+pub applied_fits : (s : Registered) (m : Attached) (itsi : ℕ) (mode : GroupMode) (items : List GroupUp) → apply_refusal s m itsi mode items ≡ None →
+    AllGroupsFit m → AllGroupsFit (applied s m itsi mode items)
 applied_fits s m itsi mode items unrefused fit other =
     (elim (other == itsi) as (λ b. (other == itsi) ≡ b → finite.len (of_radio (applied s m itsi mode items) other) ≤ most_of_radio) [
       | true ↦ λ e. subst (λ k. finite.len (of_radio (applied s m itsi mode items) k) ≤ most_of_radio) (sym (eqb-true other itsi e)) (few (is_present (radio_of s itsi)) _ unrefused)
       | false ↦ λ e. subst (λ n. finite.len n ≤ most_of_radio) (sym (part_of_other itsi other m (applied s m itsi mode items) e (other_applied s m itsi mode items))) (fit other)
     ]) refl
 
-pub applied_known : (s : Registered) (m : Attached) (itsi : ℕ) (mode : GroupMode) (items : List GroupUp) → apply_refusal s m itsi mode items ≡ None → AreKnown s m → AreKnown s (applied s m itsi mode items)
+pub applied_known : (s : Registered) (m : Attached) (itsi : ℕ) (mode : GroupMode) (items : List GroupUp) → apply_refusal s m itsi mode items ≡ None →
+    AreKnown s m → AreKnown s (applied s m itsi mode items)
 applied_known s m itsi mode items unrefused known other gtsi there =
     (elim (other == itsi) as (λ b. (other == itsi) ≡ b → IsSome (radio_of s other)) [
       | true ↦ λ e. subst (λ k. IsSome (radio_of s k)) (sym (eqb-true other itsi e)) (is_known (radio_of s itsi) (present (is_present (radio_of s itsi)) _ unrefused))

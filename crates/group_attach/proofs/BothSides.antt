@@ -30,7 +30,8 @@ get_part : (m : Attached) (itsi : ℕ) (q : Pair) → finite.get (of_radio m its
 get_part m itsi q = finite.get-retain_keys m (λ pair. pair.0 == itsi) q (alike (λ pair. pair.0 == itsi) q)
 
 -- a location update
-update_same : (b : Bool) (update : LocationUpdateType) (itsi : ℕ) (q : Pair) (o : Option Usage) → (q.0 == itsi) ≡ b → dropped_usage update (cond b o None) o ≡ passing_usage (λ e. not ((e.0.0 == itsi) && is_dropped update e.1.1)) q o
+update_same : (b : Bool) (update : LocationUpdateType) (itsi : ℕ) (q : Pair) (o : Option Usage) → (q.0 == itsi) ≡ b →
+    dropped_usage update (cond b o None) o ≡ passing_usage (λ e. not ((e.0.0 == itsi) && is_dropped update e.1.1)) q o
 unfolding dropped_usage passing_usage
 update_same true update itsi q None is = refl
 update_same false update itsi q None is = refl
@@ -40,7 +41,8 @@ update_same true update itsi q (Some u) is = turned (is_dropped update u.1) (Som
   turned false x = refl
 update_same false update itsi q (Some u) is = ap (λ b. cond (not (b && is_dropped update u.1)) (Some u) None) (sym is)
 
-pub both_after_update : (m g x y : Attached) (itsi : ℕ) (update : LocationUpdateType) (own : List Attachment) → g ≡ m → own ≡ listed (of_radio m itsi) → x ≡ all_ended update g own → y ≡ after_update m itsi update → x ≡ y
+pub both_after_update : (m g x y : Attached) (itsi : ℕ) (update : LocationUpdateType) (own : List Attachment) → g ≡ m →
+    own ≡ listed (of_radio m itsi) → x ≡ all_ended update g own → y ≡ after_update m itsi update → x ≡ y
 both_after_update m g x y itsi update own same part left_is right_is =
     left_is ∙ (λ i. all_ended update (same i) (part i))
     ∙ finite.same_map pairs_total pairs_exact _ _ (λ q.
@@ -53,13 +55,15 @@ both_after_update m g x y itsi update own same part left_is right_is =
 none_gone : (update : LocationUpdateType) (m : Attached) (list : List Attachment) → list_any (λ a. is_dropped update a.lifetime) list ≡ false → all_ended update m list ≡ m
 none_gone update m [] none = refl
 none_gone update m (a ∷ list) none =
-    elim (is_dropped update a.lifetime) as (λ b. is_dropped update a.lifetime ≡ b → (b || list_any (λ o. is_dropped update o.lifetime) list) ≡ false → all_ended update (cond b (finite.remove m (a.itsi, a.gtsi)) m) list ≡ m) [
+    elim (is_dropped update a.lifetime) as (λ b. is_dropped update a.lifetime ≡ b → (b || list_any (λ o. is_dropped update o.lifetime) list) ≡ false →
+    all_ended update (cond b (finite.remove m (a.itsi, a.gtsi)) m) list ≡ m) [
       | true ↦ λ ends same. absurd (false≢true (sym same))
       | false ↦ λ stays same. none_gone update m list same
     ] refl none
 
 -- an update that ends none of the radio's attachments
-pub none_after_update : (m : Attached) (itsi : ℕ) (update : LocationUpdateType) (own : List Attachment) → own ≡ listed (of_radio m itsi) → list_any (λ a. is_dropped update a.lifetime) own ≡ false → m ≡ after_update m itsi update
+pub none_after_update : (m : Attached) (itsi : ℕ) (update : LocationUpdateType) (own : List Attachment) → own ≡ listed (of_radio m itsi) →
+    list_any (λ a. is_dropped update a.lifetime) own ≡ false → m ≡ after_update m itsi update
 none_after_update m itsi update own part none = sym (none_gone update m own none) ∙ both_after_update m m _ _ itsi update own refl part refl refl
 
 -- a radio's own part changes by itself
@@ -117,7 +121,8 @@ pub part_has : (m list : Attached) (itsi : ℕ) → list ≡ of_radio m itsi →
 part_has m list itsi is q there = eqb-true q.0 itsi (no_other (q.0 == itsi) (finite.get m q) (subst IsSome (ap (λ x. finite.get x q) is ∙ get_part m itsi q) there))
 
 -- the radio's part in place of what it was is the whole after the PDU
-pub replaced_is_applied : (s : Registered) (m n list : Attached) (itsi : ℕ) (mode : GroupMode) (items : List GroupUp) → list ≡ of_radio (applied s m itsi mode items) itsi → IsReplaced m itsi list n → n ≡ applied s m itsi mode items
+pub replaced_is_applied : (s : Registered) (m n list : Attached) (itsi : ℕ) (mode : GroupMode) (items : List GroupUp) →
+    list ≡ of_radio (applied s m itsi mode items) itsi → IsReplaced m itsi list n → n ≡ applied s m itsi mode items
 replaced_is_applied s m n list itsi mode items is replaced =
     finite.same_map pairs_total pairs_exact _ _ (λ q.
     replaced q
@@ -127,7 +132,8 @@ replaced_is_applied s m n list itsi mode items is replaced =
       | false ↦ λ other. sym (other_applied s m itsi mode items q other)
     ]) refl)
 
-pub replaced_ok : {X E : Type 0} (r : Result X E) (s : Registered) (m n list : Attached) (itsi : ℕ) (mode : GroupMode) (items : List GroupUp) → list ≡ of_radio (applied s m itsi mode items) itsi → OnOk r (IsReplaced m itsi list n) → OnOk r (n ≡ applied s m itsi mode items)
+pub replaced_ok : {X E : Type 0} (r : Result X E) (s : Registered) (m n list : Attached) (itsi : ℕ) (mode : GroupMode) (items : List GroupUp) →
+    list ≡ of_radio (applied s m itsi mode items) itsi → OnOk r (IsReplaced m itsi list n) → OnOk r (n ≡ applied s m itsi mode items)
 replaced_ok (Ok x) s m n list itsi mode items is replaced = replaced_is_applied s m n list itsi mode items is replaced
 replaced_ok (Err e) s m n list itsi mode items is replaced = tt
 
@@ -142,7 +148,8 @@ moved_pair : (b : Bool) (l o x : Option Usage) → x ≡ cond b l o → cond (is
 moved_pair true l o x is = moved_own x o
 moved_pair false l o x is = sym is
 
-pub both_replaced : (m g r y z list : Attached) (itsi : ℕ) (old own : List Attachment) → g ≡ m → IsReplaced m itsi list r → old ≡ listed (of_radio m itsi) → own ≡ listed (of_radio r itsi) → y ≡ all_attached g own → z ≡ all_left y old own → z ≡ r
+pub both_replaced : (m g r y z list : Attached) (itsi : ℕ) (old own : List Attachment) → g ≡ m → IsReplaced m itsi list r →
+    old ≡ listed (of_radio m itsi) → own ≡ listed (of_radio r itsi) → y ≡ all_attached g own → z ≡ all_left y old own → z ≡ r
 both_replaced m g r y z list itsi old own same replaced was now added gone =
     gone ∙ (λ i. all_left (added i) (was i) (now i)) ∙ (λ i. all_left (all_attached (same i) (now i)) (listed (of_radio m itsi)) (listed (of_radio r itsi)))
     ∙ finite.same_map pairs_total pairs_exact _ _ (λ q.

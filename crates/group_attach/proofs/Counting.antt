@@ -1,9 +1,10 @@
 -- How one item changes whether a group is attached, and the count of a radio's groups.
-use Rattle.std.proofs.Common.{◌≡◌, ℕ, ◌+◌, ◌-◌, ◌≤◌, Bool, true, false, cond, Option, Some, None, refl, sym, ap, ◌∙◌, arith}
+use Rattle.std.proofs.Common.{◌≡◌, ℕ, ◌+◌, ◌-◌, Bool, true, false, cond, Option, Some, None, refl, sym, ap, ◌∙◌}
 use Rattle.std.specs.Prelude.{◌&&◌, ◌||◌, ◌==◌, not}
 use Rattle.std.specs.Option.{is_some}
 use Rattle.std.specs.Ordering.{eq_by_cmp}
-use Rattle.std.specs.Cmp.{nat_eq_equiv}
+use Rattle.base.proofs.Bools.{or_true, or_false}
+use Rattle.base.proofs.Numbers.{same_test}
 use Rattle.std.specs.FinMap as finite
 use Rattle.mm_pdus.specs.declared.group.GroupUp.{GroupUp}
 use Rattle.mm_pdus.specs.declared.group.GroupUp.TheVariants as up
@@ -15,24 +16,13 @@ use Rattle.group_attach.specs.Applied.{changed_by, attached_by, without_radio}
 use Rattle.group_attach.specs.Inside.Counted.{group_of, attached_after, attached_to_after, counted}
 use Rattle.group_attach.proofs.Pairs.{pairs_total, pairs_exact, pairs_tied, alike}
 
-pub same_number : (n : ℕ) → (n == n) ≡ true
-same_number n = nat_eq_equiv.refl n
-
 -- a pair ties with itself
 pub same_pair : (p : Pair) → eq_by_cmp pair_cmp p p ≡ true
-same_pair p = pairs_tied p p ∙ (λ i. same_number p.0 i && same_number p.1 i)
+same_pair p = pairs_tied p p ∙ (λ i. same_test p.0 i && same_test p.1 i)
 
 -- with one radio, pairs tie where the groups are one
 pub tied_groups : (itsi a b : ℕ) → eq_by_cmp pair_cmp (itsi, a) (itsi, b) ≡ (a == b)
-tied_groups itsi a b = pairs_tied (itsi, a) (itsi, b) ∙ ap (λ t. t && (a == b)) (same_number itsi)
-
-or_false : (b : Bool) → (b || false) ≡ b
-or_false true = refl
-or_false false = refl
-
-or_true : (b : Bool) → (b || true) ≡ true
-or_true true = refl
-or_true false = refl
+tied_groups itsi a b = pairs_tied (itsi, a) (itsi, b) ∙ ap (λ t. t && (a == b)) (same_test itsi)
 
 is_some_if : {A : Type 0} (b : Bool) (x y : Option A) → is_some (cond b x y) ≡ cond b (is_some x) (is_some y)
 is_some_if true x y = refl
@@ -61,7 +51,8 @@ leave_from itsi gtsi g m =
     sym (ap is_some (finite.get-remove pairs_total m (itsi, g) (itsi, gtsi)) ∙ is_some_if (eq_by_cmp pair_cmp (itsi, gtsi) (itsi, g)) _ _
     ∙ ap (λ b. cond b false (is_some (finite.get m (itsi, gtsi)))) (tied_groups itsi gtsi g))
 
-pub attached_is : (s : Registered) (itsi gtsi : ℕ) (m : Attached) (item : GroupUp) → attached_to_after s itsi gtsi (is_some (finite.get m (itsi, gtsi))) item ≡ is_some (finite.get (changed_by s itsi m item) (itsi, gtsi))
+pub attached_is : (s : Registered) (itsi gtsi : ℕ) (m : Attached) (item : GroupUp) →
+    attached_to_after s itsi gtsi (is_some (finite.get m (itsi, gtsi))) item ≡ is_some (finite.get (changed_by s itsi m item) (itsi, gtsi))
 attached_is s itsi gtsi m (up.Attach class address) = attach_to itsi gtsi (gtsi_of address itsi) class m (rule_of s (gtsi_of address itsi))
 attached_is s itsi gtsi m (up.Leave reason address) = leave_from itsi gtsi (gtsi_of address itsi) m
 
@@ -86,7 +77,7 @@ part_removed m itsi g =
 
 -- whether a group of the radio is in its part
 in_part : (m : Attached) (itsi g : ℕ) → is_some (finite.get (of_radio m itsi) (itsi, g)) ≡ is_some (finite.get m (itsi, g))
-in_part m itsi g = ap is_some (finite.get-retain_keys m (λ pair. pair.0 == itsi) (itsi, g) (alike (λ pair. pair.0 == itsi) (itsi, g)) ∙ ap (λ b. cond b (finite.get m (itsi, g)) None) (same_number itsi))
+in_part m itsi g = ap is_some (finite.get-retain_keys m (λ pair. pair.0 == itsi) (itsi, g) (alike (λ pair. pair.0 == itsi) (itsi, g)) ∙ ap (λ b. cond b (finite.get m (itsi, g)) None) (same_test itsi))
 
 count_same : (n : ℕ) (b : Bool) → n ≡ counted n b (b || false)
 count_same n true = refl
@@ -118,21 +109,16 @@ count_leave itsi g m =
 
 -- the count after one item
 pub count_is : (s : Registered) (itsi : ℕ) (m : Attached) (item : GroupUp)
-    → finite.len (of_radio (changed_by s itsi m item) itsi) ≡ counted (finite.len (of_radio m itsi)) (is_some (finite.get m (itsi, group_of itsi item))) (attached_after s itsi (is_some (finite.get m (itsi, group_of itsi item))) item)
+    → finite.len (of_radio (changed_by s itsi m item) itsi) ≡ counted (finite.len (of_radio m itsi))
+    (is_some (finite.get m (itsi, group_of itsi item))) (attached_after s itsi (is_some (finite.get m (itsi, group_of itsi item))) item)
 count_is s itsi m (up.Attach class address) = count_attach itsi (gtsi_of address itsi) class m (rule_of s (gtsi_of address itsi))
 count_is s itsi m (up.Leave reason address) = count_leave itsi (gtsi_of address itsi) m
-
--- the count is at most one greater
-pub at_most_one_more : (n : ℕ) (before after : Bool) → counted n before after ≤ n + 1
-at_most_one_more n true true = omega arith
-at_most_one_more n true false = omega arith
-at_most_one_more n false true = omega arith
-at_most_one_more n false false = omega arith
 
 -- a radio that is taken out has no group
 pub none_of_radio : (m : Attached) (itsi gtsi : ℕ) → is_some (finite.get (without_radio m itsi) (itsi, gtsi)) ≡ false
 none_of_radio m itsi gtsi =
-    ap is_some (finite.get-retain_keys m (λ pair. not (pair.0 == itsi)) (itsi, gtsi) (alike (λ pair. not (pair.0 == itsi)) (itsi, gtsi)) ∙ ap (λ b. cond (not b) (finite.get m (itsi, gtsi)) None) (same_number itsi))
+    ap is_some (finite.get-retain_keys m (λ pair. not (pair.0 == itsi)) (itsi, gtsi) (alike (λ pair. not (pair.0 == itsi)) (itsi, gtsi)) ∙
+    ap (λ b. cond (not b) (finite.get m (itsi, gtsi)) None) (same_test itsi))
 
 pub none_counted : (m : Attached) (itsi : ℕ) → finite.len (of_radio (without_radio m itsi) itsi) ≡ 0
 none_counted m itsi =

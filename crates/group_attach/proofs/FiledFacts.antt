@@ -13,10 +13,6 @@ use Rattle.group_attach.specs.Inside.Filed.{Filed, under, placed, unless_empty, 
 use Rattle.prefix_tree.specs.Change.{with_value}
 use Rattle.group_attach.proofs.Endings.{nothing_ends}
 
-once : {A : Type 0} (b : Bool) (x y : A) → cond b x (cond b y x) ≡ x
-once true x y = refl
-once false x y = refl
-
 at_tie : {A : Type 0} (b : Bool) (x y : Option A) → (b ≡ true → x ≡ y) → cond b x y ≡ y
 at_tie true x y h = h refl
 at_tie false x y h = refl
@@ -38,11 +34,13 @@ pub by_answer : {A G : Type 0} {B C : A → Type 0} → ((a : A) × B a × C a) 
 by_answer made use_it = use_it made.0 made.1 made.2
 
 -- a closure writes the list, or leaves it as it was where it fails
-pub written : {X E : Type 0} (r : Result X E) (f new : Filed) (p : Path) (left : Option Attached) (list : Attached) → new ≡ with_value f p left → OnOk r (left ≡ Some list) → OnOk r (new ≡ finite.insert f p list)
+pub written : {X E : Type 0} (r : Result X E) (f new : Filed) (p : Path) (left : Option Attached) (list : Attached) → new ≡ with_value f p left →
+    OnOk r (left ≡ Some list) → OnOk r (new ≡ finite.insert f p list)
 written (Ok x) f new p left list is made = is ∙ ap (with_value f p) made
 written (Err e) f new p left list is made = tt
 
-pub unwritten : {X E : Type 0} (r : Result X E) (f new : Filed) (p : Path) (left : Option Attached) (list : Attached) → new ≡ with_value f p left → finite.get f p ≡ Some list → OnErr r (left ≡ Some list) → OnErr r (new ≡ f)
+pub unwritten : {X E : Type 0} (r : Result X E) (f new : Filed) (p : Path) (left : Option Attached) (list : Attached) → new ≡ with_value f p left →
+    finite.get f p ≡ Some list → OnErr r (left ≡ Some list) → OnErr r (new ≡ f)
 unwritten (Ok x) f new p left list is there same = tt
 unwritten (Err e) f new p left list is there same = is ∙ ap (with_value f p) same ∙ insert_same f p list (sym there)
 

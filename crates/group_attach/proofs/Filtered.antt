@@ -4,6 +4,7 @@ use Rattle.std.specs.Prelude.{T, ◌&&◌, ◌==◌, not}
 use Rattle.std.specs.List.{filter}
 use Rattle.std.specs.FinMap as finite
 use Rattle.std.specs.FinMap.Entries.{below_all, is_sorted, is_sorted-where_key, find-where_key}
+use Rattle.base.proofs.Bools.{true_if}
 use Rattle.group_attach.specs.declared.attachment.Attachment.{Attachment}
 use Rattle.group_attach.specs.Attached.{Pair, Usage, Attached, pair_cmp, entry_of, attachment_of, listed, pair_of}
 use Rattle.group_attach.specs.Applied.{passing}
@@ -25,10 +26,6 @@ both false b h k = h
 
 pub to_T : (b : Bool) → b ≡ true → T b
 to_T b e = subst T (sym e) tt
-
-pub from_T : (b : Bool) → T b → b ≡ true
-from_T true t = refl
-from_T false t = absurd t
 
 below_passing : (x : Pair) (p : Pair × Usage → Bool) (es : List (Pair × Usage)) → T (below_all pair_cmp x es) → T (below_all pair_cmp x (filter p es))
 below_passing x p [] h = tt
@@ -64,13 +61,15 @@ entries_of es order = finite.entries-from_sorted pair_cmp (map entry_of es) (to_
 filtered : (p : Pair × Usage → Bool) (es : List Attachment) → filter p (map entry_of es) ≡ map entry_of (filter (λ a. p (entry_of a)) es)
 filtered p [] = refl
 filtered p (x ∷ xs) =
-    elim (p (entry_of x)) as (λ b. cond b (entry_of x ∷ filter p (map entry_of xs)) (filter p (map entry_of xs)) ≡ map entry_of (cond b (x ∷ filter (λ a. p (entry_of a)) xs) (filter (λ a. p (entry_of a)) xs))) [
+    elim (p (entry_of x)) as
+    (λ b. cond b (entry_of x ∷ filter p (map entry_of xs)) (filter p (map entry_of xs)) ≡ map entry_of
+    (cond b (x ∷ filter (λ a. p (entry_of a)) xs) (filter (λ a. p (entry_of a)) xs))) [
       | true ↦ ap (λ r. entry_of x ∷ r) (filtered p xs)
       | false ↦ filtered p xs
     ]
 
 pub passing_in_order : (p : Pair × Usage → Bool) (es : List Attachment) → IsInOrder es → IsInOrder (filter (λ a. p (entry_of a)) es)
-passing_in_order p es order = from_T _ (subst (λ r. T (is_sorted pair_cmp r)) (filtered p es) (sorted_passing p (map entry_of es) (to_T _ order)))
+passing_in_order p es order = true_if _ (subst (λ r. T (is_sorted pair_cmp r)) (filtered p es) (sorted_passing p (map entry_of es) (to_T _ order)))
 
 pub passing_map : (p : Pair × Usage → Bool) (es : List Attachment) → IsInOrder es → map_of (filter (λ a. p (entry_of a)) es) ≡ passing p (map_of es)
 passing_map p es order = ap finite.from_sorted (sym (ap (filter p) (entries_of es order) ∙ filtered p es))
@@ -81,12 +80,6 @@ retained_map p es order = passing_map (λ e. p e.0) es order ∙ sym (retained_i
 as_listed : (es : List Attachment) → map attachment_of (map entry_of es) ≡ es
 as_listed [] = refl
 as_listed (x ∷ xs) = ap (λ r. x ∷ r) (as_listed xs)
-
--- the part of the list that is seen in a part of the map
-pub listed_part : (p : Pair → Bool) (es : List Attachment) → IsInOrder es → listed (finite.retain_keys (map_of es) p) ≡ filter (λ a. p (pair_of a)) es
-listed_part p es order =
-    ap (map attachment_of) (entries_retained p (map_of es) ∙ ap (filter (λ e. p e.0)) (entries_of es order) ∙ filtered (λ e. p e.0) es)
-    ∙ as_listed (filter (λ a. p (pair_of a)) es)
 
 length_entries : (es : List Attachment) → length (map entry_of es) ≡ length es
 length_entries [] = refl
@@ -107,7 +100,9 @@ fewer p t [] = omega arith
 fewer p t (e ∷ es) =
     let rest = fewer p t es in
     elim (t e) as (λ b. length (filter p (cond b (e ∷ filter t es) (filter t es))) ≤ length (cond (p e) (e ∷ filter p es) (filter p es))) [
-      | true ↦ elim (p e) as (λ b. length (cond b (e ∷ filter p (filter t es)) (filter p (filter t es))) ≤ length (cond b (e ∷ filter p es) (filter p es))) [ true ↦ omega (arith, rest) | false ↦ rest ]
+      | true ↦ elim (p e) as
+          (λ b. length (cond b (e ∷ filter p (filter t es)) (filter p (filter t es))) ≤ length (cond b (e ∷ filter p es) (filter p es)))
+          [ true ↦ omega (arith, rest) | false ↦ rest ]
       | false ↦ elim (p e) as (λ b. length (filter p (filter t es)) ≤ length (cond b (e ∷ filter p es) (filter p es))) [ true ↦ omega (arith, rest) | false ↦ rest ]
     ]
 

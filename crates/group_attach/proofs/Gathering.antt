@@ -2,13 +2,13 @@
 use Rattle.std.proofs.Common.{◌≡◌, ℕ, zero, suc, ◌<◌, ◌^◌, Bool, true, false, cond, List, [], ◌∷◌, ◌++◌, length, Option, Some, None, refl, sym, ap, ◌∙◌, subst, arith}
 use Rattle.std.specs.Prelude.{T, ◌==◌, IsSome}
 use Rattle.std.specs.Option.{is_some, option_or}
-use Rattle.std.specs.declared.cmp.Ordering.{Ordering}
-use Rattle.std.specs.declared.cmp.Ordering.TheVariants.{Less, Equal, Greater}
-use Rattle.std.specs.Ordering.{is_eq, is_lt, eq_by_cmp}
+use Rattle.std.specs.Ordering.{eq_by_cmp}
 use Rattle.std.specs.FinMap as finite
 use Rattle.std.specs.FinMap.{find}
 use Rattle.std.specs.FinMap.Entries.{below_all, is_sorted}
 use mathlib.Core.Bool.{false≢true}
+use Rattle.base.proofs.Bools.{less_apart}
+use Rattle.base.proofs.Numbers.{same_test}
 use borrow.Author.Tests.{eqb-true}
 use Rattle.identity.specs.Number.{number}
 use Rattle.identity.specs.Path.{Path, path_cmp, id_path}
@@ -18,7 +18,7 @@ use Rattle.group_attach.specs.declared.ending.Ending.{Ending}
 use Rattle.group_attach.specs.Attached.{Attached, Pair, Usage, pair_cmp, no_groups, pair_of, attached}
 use Rattle.group_attach.specs.Inside.Filed.{Filed, under, held, placed, of_entries, gathered, AllHave, IsFiled, part_of, ended}
 use Rattle.group_attach.proofs.Pairs.{pairs_total, pairs_exact, alike}
-use Rattle.group_attach.proofs.Counting.{same_number, same_pair}
+use Rattle.group_attach.proofs.Counting.{same_pair}
 use Rattle.group_attach.proofs.Filtered.{left, right}
 use Rattle.group_attach.proofs.Endings.{tie, passed, ended_usage, get_ended, ended_none}
 use Rattle.group_attach.proofs.FiledFacts.{absent_not}
@@ -34,11 +34,6 @@ find_both q (x ∷ xs) ys =
       | true ↦ refl
       | false ↦ find_both q xs ys
     ]
-
-less_apart : (o : Ordering) → T (is_lt o) → is_eq o ≡ false
-less_apart Less h = refl
-less_apart Equal h = absurd h
-less_apart Greater h = absurd h
 
 -- a path before all others is none of them
 path_apart : (p : Path) (es : List (Path × Attached)) → T (below_all path_cmp p es) → find path_cmp p es ≡ None
@@ -80,7 +75,9 @@ pub has_some : (m : Attached) (q : Pair) → IsSome (finite.get m q) → 0 < fin
 has_some m q there = subst (λ n. 0 < n) (sym (finite.len-entries m)) (some_in q (finite.entries m) (subst IsSome (finite.get-entries m q) there))
 
 attached_some : (m : Attached) (a : Attachment) → 0 < finite.len (attached m a)
-attached_some m a = has_some (attached m a) (pair_of a) (ap is_some (finite.get-insert pairs_total m (pair_of a) (a.class, a.lifetime) (pair_of a) ∙ ap (λ b. cond b (Some (a.class, a.lifetime)) (finite.get m (pair_of a))) (same_pair (pair_of a))))
+attached_some m a = has_some (attached m a) (pair_of a)
+    (ap is_some (finite.get-insert pairs_total m (pair_of a) (a.class, a.lifetime) (pair_of a) ∙
+    ap (λ b. cond b (Some (a.class, a.lifetime)) (finite.get m (pair_of a))) (same_pair (pair_of a))))
 
 placed_insert : (f : Filed) (p : Path) (list : Attached) → 0 < finite.len list → finite.insert f p list ≡ placed f p list
 placed_insert f p list some = ap (λ b. cond b (finite.remove f p) (finite.insert f p list)) (sym (not_zero (finite.len list) some))
@@ -117,7 +114,9 @@ module _ (key : Pair → ℕ) where
       (sym (finite.get-entries (finite.retain_keys e.1 (λ pair. eq_by_cmp path_cmp (id_path (key pair)) e.0)) q)
       ∙ finite.get-retain_keys e.1 (λ pair. eq_by_cmp path_cmp (id_path (key pair)) e.0) q (alike (λ pair. eq_by_cmp path_cmp (id_path (key pair)) e.0) q))
       ∙ ap (option_or (cond (eq_by_cmp path_cmp p e.0) (finite.get e.1 q) None)) rest
-      ∙ (elim (eq_by_cmp path_cmp p e.0) as (λ b. eq_by_cmp path_cmp p e.0 ≡ b → option_or (cond b (finite.get e.1 q) None) (finite.get (held (find path_cmp p es)) q) ≡ finite.get (held (cond b (Some e.1) (find path_cmp p es))) q) [
+      ∙ (elim (eq_by_cmp path_cmp p e.0) as
+      (λ b. eq_by_cmp path_cmp p e.0 ≡ b → option_or (cond b (finite.get e.1 q) None) (finite.get (held (find path_cmp p es)) q) ≡ finite.get
+      (held (cond b (Some e.1) (find path_cmp p es))) q) [
         | true ↦ λ same.
             let none : find path_cmp p es ≡ None = subst (λ k. find path_cmp k es ≡ None) (sym (tie_exact p e.0 same)) (path_apart e.0 es (left _ _ order)) in
             ap (option_or (finite.get e.1 q)) (ap (λ o. finite.get (held o) q) none ∙ finite.get-empty pair_cmp q) ∙ no_rest (finite.get e.1 q)
@@ -149,7 +148,7 @@ module _ (key : Pair → ℕ) where
   stranger list k q all other =
       (elim (finite.get list q) as (λ o. finite.get list q ≡ o → o ≡ None) [
         | None ↦ λ e. refl
-        | Some u ↦ λ e. absurd (false≢true (sym other ∙ ap (λ n. n == k) (all q (ap is_some e)) ∙ same_number k))
+        | Some u ↦ λ e. absurd (false≢true (sym other ∙ ap (λ n. n == k) (all q (ap is_some e)) ∙ same_test k))
       ]) refl
 
   -- the list under a number's path is the part with that number
@@ -162,11 +161,14 @@ module _ (key : Pair → ℕ) where
       ∙ sym (finite.get-retain_keys (gathered key f) (λ pair. key pair == k) q (alike (λ pair. key pair == k) q)))
 
   -- with a list in its place, its pairs are the list's and all others are as they were
-  pub get_placed : (f : Filed) (k : ℕ) (list : Attached) → k < 2 ^ 48 → IsFiled key f → AllHave key k list → (q : Pair) → finite.get (gathered key (placed f (id_path k) list)) q ≡ cond (key q == k) (finite.get list q) (finite.get (gathered key f) q)
+  pub get_placed : (f : Filed) (k : ℕ) (list : Attached) → k < 2 ^ 48 → IsFiled key f → AllHave key k list → (q : Pair) →
+      finite.get (gathered key (placed f (id_path k) list)) q ≡ cond (key q == k) (finite.get list q) (finite.get (gathered key f) q)
   get_placed f k list fits filed all q =
       get_gathered (placed f (id_path k) list) q
       ∙ ap (λ l. finite.get l q) (under_placed f (id_path k) list (id_path (key q)))
-      ∙ (elim (key q == k) as (λ b. (key q == k) ≡ b → finite.get (cond (eq_by_cmp path_cmp (id_path (key q)) (id_path k)) list (under f (id_path (key q)))) q ≡ cond b (finite.get list q) (finite.get (gathered key f) q)) [
+      ∙ (elim (key q == k) as
+      (λ b. (key q == k) ≡ b → finite.get (cond (eq_by_cmp path_cmp (id_path (key q)) (id_path k)) list (under f (id_path (key q)))) q ≡ cond b
+      (finite.get list q) (finite.get (gathered key f) q)) [
         | true ↦ λ same.
             ap (λ b. finite.get (cond b list (under f (id_path (key q)))) q) (ap (λ n. eq_by_cmp path_cmp (id_path n) (id_path k)) (eqb-true (key q) k same) ∙ tied (id_path k))
         | false ↦ λ other.
@@ -218,7 +220,9 @@ module _ (key : Pair → ℕ) where
 
   pub attached_own : (f : Filed) (a : Attachment) → key (pair_of a) < 2 ^ 48 → IsFiled key f → AllHave key (key (pair_of a)) (attached (under f (id_path (key (pair_of a)))) a)
   attached_own f a fits filed q there =
-      (elim (eq_by_cmp pair_cmp q (pair_of a)) as (λ b. eq_by_cmp pair_cmp q (pair_of a) ≡ b → IsSome (cond b (Some (a.class, a.lifetime)) (finite.get (under f (id_path (key (pair_of a)))) q)) → key q ≡ key (pair_of a)) [
+      (elim (eq_by_cmp pair_cmp q (pair_of a)) as
+      (λ b. eq_by_cmp pair_cmp q (pair_of a) ≡ b →
+      IsSome (cond b (Some (a.class, a.lifetime)) (finite.get (under f (id_path (key (pair_of a)))) q)) → key q ≡ key (pair_of a)) [
         | true ↦ λ same some. ap key (tie q (pair_of a) same)
         | false ↦ λ other some. own_key f (key (pair_of a)) fits filed q some
       ]) refl (subst IsSome (finite.get-insert pairs_total (under f (id_path (key (pair_of a)))) (pair_of a) (a.class, a.lifetime) q) there)
@@ -233,9 +237,10 @@ module _ (key : Pair → ℕ) where
       ∙ ap (cond (eq_by_cmp pair_cmp q (pair_of a)) (Some (a.class, a.lifetime))) (own_side f k q same)
       ∙ sym (finite.get-insert pairs_total (gathered key f) (pair_of a) (a.class, a.lifetime) q))
       (λ q other. sym (finite.get-insert pairs_total (gathered key f) (pair_of a) (a.class, a.lifetime) q
-      ∙ passed (eq_by_cmp pair_cmp q (pair_of a)) _ _ (λ same. false≢true (sym other ∙ ap (λ r. key r == k) (tie q (pair_of a) same) ∙ same_number k))))
+      ∙ passed (eq_by_cmp pair_cmp q (pair_of a)) _ _ (λ same. false≢true (sym other ∙ ap (λ r. key r == k) (tie q (pair_of a) same) ∙ same_test k))))
 
-  pub filed_attached : (f : Filed) (a : Attachment) → key (pair_of a) < 2 ^ 48 → IsFiled key f → IsFiled key (finite.insert f (id_path (key (pair_of a))) (attached (under f (id_path (key (pair_of a)))) a))
+  pub filed_attached : (f : Filed) (a : Attachment) → key (pair_of a) < 2 ^ 48 → IsFiled key f →
+      IsFiled key (finite.insert f (id_path (key (pair_of a))) (attached (under f (id_path (key (pair_of a)))) a))
   filed_attached f a fits filed =
       let k = key (pair_of a) in
       subst (IsFiled key) (sym (placed_insert f (id_path k) (attached (under f (id_path k)) a) (attached_some (under f (id_path k)) a)))

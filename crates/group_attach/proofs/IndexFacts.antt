@@ -52,7 +52,8 @@ module _ (key : Pair → ℕ) (f : Filed) (k : ℕ) (fits : k < 2 ^ 48) (filed :
       subst (IsFiled key) (sym ok) (filed_placed key f p list filed (λ q there. all q there ∙ sym (number-id_path k fits) ∙ ap number (sym at)))
   filed_set (Err e) n list all ok err = subst (IsFiled key) (sym err) filed
 
-  is_placed : (m : Attached) (n : Filed) (list : Attached) → gathered key f ≡ m → AllHave key k list → n ≡ placed f p list → (q : Pair) → finite.get (gathered key n) q ≡ cond (key q == k) (finite.get list q) (finite.get m q)
+  is_placed : (m : Attached) (n : Filed) (list : Attached) → gathered key f ≡ m → AllHave key k list → n ≡ placed f p list → (q : Pair) →
+      finite.get (gathered key n) q ≡ cond (key q == k) (finite.get list q) (finite.get m q)
   is_placed m n list view all is q =
       ap (λ g. finite.get (gathered key g) q) (is ∙ ap (λ r. placed f r list) at)
       ∙ get_placed key f k list fits filed all q
@@ -82,7 +83,8 @@ module _ (key : Pair → ℕ) (f : Filed) (k : ℕ) (fits : k < 2 ^ 48) (filed :
       subst (IsFiled key) (sym (is ∙ placed_nothing f p))
       (filed_placed key f p no_groups filed (λ q there. absurd (absent_not (sym (finite.get-empty pair_cmp q)) there)))
 
-  pub is_cleared : (m : Attached) (n : Filed) → gathered key f ≡ m → n ≡ finite.remove f p → (q : Pair) → finite.get (gathered key n) q ≡ (if key q == k then finite.get no_groups q else finite.get m q)
+  pub is_cleared : (m : Attached) (n : Filed) → gathered key f ≡ m → n ≡ finite.remove f p → (q : Pair) →
+      finite.get (gathered key n) q ≡ (if key q == k then finite.get no_groups q else finite.get m q)
   is_cleared m n view is = is_placed m n no_groups view none_has (is ∙ placed_nothing f p)
 
 module _ (key : Pair → ℕ) (f : Filed) (p : Path) where

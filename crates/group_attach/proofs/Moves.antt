@@ -6,6 +6,7 @@ use Rattle.std.specs.Ordering.{eq_by_cmp}
 use Rattle.std.specs.FinMap as finite
 use Rattle.std.specs.FinMap.{find}
 use Rattle.std.specs.FinMap.Entries.{is_sorted}
+use Rattle.base.proofs.Bools.{cond_same}
 use Rattle.mm_pdus.specs.declared.update.LocationUpdateType.{LocationUpdateType}
 use Rattle.group_attach.specs.declared.attachment.Attachment.{Attachment}
 use Rattle.group_attach.specs.Attached.{Pair, Usage, Attached, pair_cmp, attachment_of, entry_of, listed, pair_of, attached, all_attached}
@@ -59,7 +60,9 @@ added_from q [] m order = refl
 added_from q (e ∷ es) m order =
     added_from q es (finite.insert m e.0 e.1) (right _ _ order)
     ∙ ap (option_or (find pair_cmp q es)) (finite.get-insert pairs_total m e.0 e.1 q)
-    ∙ (elim (eq_by_cmp pair_cmp q e.0) as (λ b. eq_by_cmp pair_cmp q e.0 ≡ b → option_or (find pair_cmp q es) (cond b (Some e.1) (finite.get m q)) ≡ option_or (cond b (Some e.1) (find pair_cmp q es)) (finite.get m q)) [
+    ∙ (elim (eq_by_cmp pair_cmp q e.0) as
+    (λ b. eq_by_cmp pair_cmp q e.0 ≡ b → option_or (find pair_cmp q es) (cond b (Some e.1) (finite.get m q)) ≡ option_or
+    (cond b (Some e.1) (find pair_cmp q es)) (finite.get m q)) [
       | true ↦ λ same. ap (λ o. option_or o (Some e.1)) (subst (λ k. find pair_cmp k es ≡ None) (sym (tie q e.0 same)) (apart e.0 es (left _ _ order)))
       | false ↦ λ other. refl
     ]) refl
@@ -71,17 +74,14 @@ and_false : {A : Type 0} (a : Bool) (x y : A) → cond (a && false) x y ≡ y
 and_false true x y = refl
 and_false false x y = refl
 
-either_way : {A : Type 0} (b : Bool) (x : A) → cond b x x ≡ x
-either_way true x = refl
-either_way false x = refl
-
 step_left : (b : Bool) (m : Attached) (e : Pair × Usage) (q : Pair) → eq_by_cmp pair_cmp q e.0 ≡ false → finite.get (cond b m (finite.remove m e.0)) q ≡ finite.get m q
 step_left true m e q other = refl
 step_left false m e q other = finite.get-remove pairs_total m e.0 q ∙ ap (λ b. cond b None (finite.get m q)) other
 
-step_gone : (a b : Bool) (m : Attached) (e : Pair × Usage) (q : Pair) → eq_by_cmp pair_cmp q e.0 ≡ true → cond (a && not b) None (finite.get (cond b m (finite.remove m e.0)) q) ≡ cond (not b) None (finite.get m q)
+step_gone : (a b : Bool) (m : Attached) (e : Pair × Usage) (q : Pair) → eq_by_cmp pair_cmp q e.0 ≡ true →
+    cond (a && not b) None (finite.get (cond b m (finite.remove m e.0)) q) ≡ cond (not b) None (finite.get m q)
 step_gone a true m e q same = and_false a None (finite.get m q)
-step_gone a false m e q same = ap (cond (a && true) None) (finite.get-remove pairs_total m e.0 q ∙ ap (λ b. cond b None (finite.get m q)) same) ∙ either_way (a && true) None
+step_gone a false m e q same = ap (cond (a && true) None) (finite.get-remove pairs_total m e.0 q ∙ ap (λ b. cond b None (finite.get m q)) same) ∙ cond_same (a && true) None
 
 -- those of an old list taken away that a new one has not
 gone_from : (q : Pair) (list : List Attachment) (es : List (Pair × Usage)) (m : Attached)
@@ -89,9 +89,13 @@ gone_from : (q : Pair) (list : List Attachment) (es : List (Pair × Usage)) (m :
 gone_from q list [] m = refl
 gone_from q list (e ∷ es) m =
     gone_from q list es (left_unless list m (attachment_of e))
-    ∙ (elim (eq_by_cmp pair_cmp q e.0) as (λ b. eq_by_cmp pair_cmp q e.0 ≡ b → cond (is_some (find pair_cmp q es) && not (is_some (finite.get (map_of list) q))) None (finite.get (left_unless list m (attachment_of e)) q) ≡ cond (is_some (cond b (Some e.1) (find pair_cmp q es)) && not (is_some (finite.get (map_of list) q))) None (finite.get m q)) [
+    ∙ (elim (eq_by_cmp pair_cmp q e.0) as
+    (λ b. eq_by_cmp pair_cmp q e.0 ≡ b → cond (is_some (find pair_cmp q es) && not (is_some (finite.get (map_of list) q))) None
+    (finite.get (left_unless list m (attachment_of e)) q) ≡ cond
+    (is_some (cond b (Some e.1) (find pair_cmp q es)) && not (is_some (finite.get (map_of list) q))) None (finite.get m q)) [
       | true ↦ λ same.
-          ap (λ k. cond (is_some (find pair_cmp q es) && not (is_some (finite.get (map_of list) q))) None (finite.get (cond (is_some (finite.get (map_of list) k)) m (finite.remove m e.0)) q)) (sym (tie q e.0 same))
+          ap (λ k. cond (is_some (find pair_cmp q es) && not (is_some (finite.get (map_of list) q))) None
+          (finite.get (cond (is_some (finite.get (map_of list) k)) m (finite.remove m e.0)) q)) (sym (tie q e.0 same))
           ∙ step_gone (is_some (find pair_cmp q es)) (is_some (finite.get (map_of list) q)) m e q same
       | false ↦ λ other. ap (cond (is_some (find pair_cmp q es) && not (is_some (finite.get (map_of list) q))) None) (step_left (has_pair list (attachment_of e)) m e q other)
     ]) refl
@@ -120,7 +124,9 @@ unfolding dropped_usage
 dropped_from q update [] m order = refl
 dropped_from q update (e ∷ es) m order =
     dropped_from q update es (left_if_ended update m (attachment_of e)) (right _ _ order)
-    ∙ (elim (eq_by_cmp pair_cmp q e.0) as (λ b. eq_by_cmp pair_cmp q e.0 ≡ b → dropped_usage update (find pair_cmp q es) (finite.get (left_if_ended update m (attachment_of e)) q) ≡ dropped_usage update (cond b (Some e.1) (find pair_cmp q es)) (finite.get m q)) [
+    ∙ (elim (eq_by_cmp pair_cmp q e.0) as
+    (λ b. eq_by_cmp pair_cmp q e.0 ≡ b → dropped_usage update (find pair_cmp q es) (finite.get (left_if_ended update m (attachment_of e)) q) ≡
+    dropped_usage update (cond b (Some e.1) (find pair_cmp q es)) (finite.get m q)) [
       | true ↦ λ same.
           ap (λ o. dropped_usage update o (finite.get (left_if_ended update m (attachment_of e)) q)) (subst (λ k. find pair_cmp k es ≡ None) (sym (tie q e.0 same)) (apart e.0 es (left _ _ order)))
           ∙ step_dropped (is_dropped update e.1.1) m e q same

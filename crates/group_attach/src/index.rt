@@ -15,9 +15,9 @@ use crate::ending::Ending;
 use crate::list::has;
 use crate::lists::Lists;
 use crate::side::{ByRadio, Side};
+use base::TryCopy;
 use identity::{Gtsi, Itsi, Prefix};
 use mm_pdus::LocationUpdateType;
-use prefix_tree::TryCopy;
 use std::alloc::{AllocError, Allocator};
 use std::marker::{Model, PhantomData};
 

@@ -9,8 +9,9 @@ ghost use Rattle.group_attach.specs.Inside.Filed.{under, placed, ended};
 use crate::Attachment;
 use crate::attachments::AttachmentList;
 use crate::ending::Ending;
+use base::TryCopy;
 use identity::{Itsi, Prefix};
-use prefix_tree::{LazyMap, TryCopy};
+use prefix_tree::LazyMap;
 use std::alloc::{AllocError, Allocator};
 use std::marker::Model;
 

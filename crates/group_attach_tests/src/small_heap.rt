@@ -2,10 +2,10 @@
 
 use crate::fixture::Ask::{Attach, Leave};
 use crate::fixture::{Ask, group, items, radio, register};
+use base::TryCopy;
 use group_attach::{Attachment, GroupFault, Groups, answers};
 use linked_list_allocator::LocalHeap;
 use mm_pdus::{GroupItems, GroupMode, GroupUp};
-use prefix_tree::TryCopy;
 use registration::Registry;
 use std::alloc::Global;
 use std::test::Fail;

@@ -7,10 +7,10 @@ use Rattle.std.proofs.lemmas.List.{append-nil, take_all, take_more, drop_at, dro
 use Rattle.std.proofs.lemmas.List.Concat.{flat_map-append}
 use Rattle.std.proofs.lemmas.Nat.{one_shl, pow-add}
 use Rattle.std.proofs.Math.Pow.{pow_mono}
+use Rattle.base.proofs.Bools.{first_true, second_true}
 use Rattle.identity.specs.Number.{num, number}
 use Rattle.identity.specs.Inside.NumberLaws.{length-num, number-num, number-num_mod, number-lt, num-number, num-append, num-mod, drop-num}
 use Rattle.identity.specs.BitsText.{digit_bits}
-use Rattle.identity.proofs.NumberText.{and_left, and_right}
 
 pub length-digit_bits : (digits : List ℕ) → length (digit_bits digits) ≡ 4 * length digits
 unfolding digit_bits
@@ -32,10 +32,6 @@ digit_bits_more digits i inside =
 -- past a first part
 drop_past : (prefix back : List Bool) (n : ℕ) → drop (length prefix + n) (prefix ++ back) ≡ drop n back
 drop_past prefix back n = sym (drop-drop n (length prefix) (prefix ++ back)) ∙ ap (drop n) (drop_at prefix back (length prefix) refl)
-
-take_past : (prefix back : List Bool) (n : ℕ) → take (length prefix + n) (prefix ++ back) ≡ prefix ++ take n back
-take_past [] back n = let e : 0 + n ≡ n = omega arith in ap (λ (m : ℕ). take m back) e
-take_past (b ∷ prefix) back n = let e : suc (length prefix) + n ≡ suc (length prefix + n) = omega arith in ap (λ (m : ℕ). take m (b ∷ prefix ++ back)) e ∙ ap (λ (l : List Bool). b ∷ l) (take_past prefix back n)
 
 -- the bits that fill the last digit
 pub last_bits : (digits : List ℕ) (fill : ℕ) → 0 < length digits → fill < 4
@@ -68,21 +64,16 @@ unfolding digit_bits number none_at_all
 zeros_of_none [] fill none = let place : 0 ≡ 4 * length none_at_all - fill = omega arith in ap (λ (n : ℕ). number (drop n (digit_bits none_at_all)) == 0) place
 zeros_of_none (c ∷ digits) fill none = absurd (omega (arith, none))
 
--- each byte of hexadecimal digits is one
-pub hexadecimal_at : (digits : List ℕ) (i : ℕ) → list_all is_ascii_hexdigit digits ≡ true → i < length digits → is_ascii_hexdigit (get_or digits i 0) ≡ true
-hexadecimal_at [] i all inside = absurd (omega (arith, inside))
-hexadecimal_at (c ∷ digits) zero all inside = and_left (is_ascii_hexdigit c) (list_all is_ascii_hexdigit digits) all
-hexadecimal_at (c ∷ digits) (suc i) all inside = hexadecimal_at digits i (and_right (is_ascii_hexdigit c) (list_all is_ascii_hexdigit digits) all) (omega (arith, inside))
-
 -- ---- digits as a number
 
 -- one digit more after digits alone
-pub hexadecimal_more : (text : List ℕ) (i : ℕ) → list_all is_ascii_hexdigit (take i text) ≡ true → i < length text → is_ascii_hexdigit (get_or text i 0) ≡ true → list_all is_ascii_hexdigit (take (i + 1) text) ≡ true
+pub hexadecimal_more : (text : List ℕ) (i : ℕ) → list_all is_ascii_hexdigit (take i text) ≡ true → i < length text →
+    is_ascii_hexdigit (get_or text i 0) ≡ true → list_all is_ascii_hexdigit (take (i + 1) text) ≡ true
 hexadecimal_more [] i prefix inside digit = absurd (omega (arith, inside))
 hexadecimal_more (c ∷ text) zero prefix inside digit = rw digit refl
 hexadecimal_more (c ∷ text) (suc i) prefix inside digit =
-    let first = and_left (is_ascii_hexdigit c) (list_all is_ascii_hexdigit (take i text)) prefix in
-    let rest = hexadecimal_more text i (and_right (is_ascii_hexdigit c) (list_all is_ascii_hexdigit (take i text)) prefix) (omega (arith, inside)) digit in
+    let first = first_true (is_ascii_hexdigit c) (list_all is_ascii_hexdigit (take i text)) prefix in
+    let rest = hexadecimal_more text i (second_true (is_ascii_hexdigit c) (list_all is_ascii_hexdigit (take i text)) prefix) (omega (arith, inside)) digit in
     let one : suc (i + 1) ≡ suc i + 1 = omega arith in
     ap (λ (n : ℕ). list_all is_ascii_hexdigit (take n (c ∷ text))) (sym one) ∙ rw (first, rest) refl
 

@@ -1,5 +1,6 @@
 -- Texts of bits: what is written is what is read.
-use Rattle.std.proofs.Common.{◌≡◌, ℕ, ◌+◌, ◌-◌, ◌*◌, ◌^◌, ◌<◌, ◌≤◌, Bool, true, false, ◌&&◌, List, [], ◌∷◌, ◌++◌, length, take, drop, replicate, refl, sym, ap, subst, ◌∙◌, arith, Option, Some, None, option_map, Ok, Err, nat_le, nat_lt}
+use Rattle.std.proofs.Common.{◌≡◌, ℕ, ◌+◌, ◌-◌, ◌*◌, ◌^◌, ◌<◌, ◌≤◌, Bool, true, false, ◌&&◌, List, [], ◌∷◌, ◌++◌, length, take, drop, replicate, refl}
+use Rattle.std.proofs.Common.{sym, ap, subst, ◌∙◌, arith, Option, Some, None, option_map, Ok, Err, nat_le, nat_lt}
 use Rattle.std.specs.Prelude.{◌↔◌, ◌⊎◌, ◌==◌, decimal}
 use Rattle.std.specs.Char.{digit_value, is_ascii_digit, is_ascii_hexdigit}
 use Rattle.std.specs.Fmt.{digit_glyph}
@@ -7,6 +8,9 @@ use Rattle.std.specs.List.{list_all}
 use Rattle.std.proofs.lemmas.Bool.Decides.{nat_tests}
 use Rattle.std.proofs.lemmas.Bool.{eq-eqb}
 use Rattle.std.proofs.lemmas.List.{take_at, drop_at, take-append-drop, length-append, length-replicate, length-take, length-drop}
+use Rattle.base.proofs.Bools.{both_true}
+use Rattle.base.proofs.Numbers.{test_by_le, le_by_test}
+use Rattle.base.proofs.Options.{some_is}
 use Rattle.identity.specs.Number.{num, number}
 use Rattle.identity.specs.Inside.NumberLaws.{number-lt, num-number}
 use Rattle.identity.specs.NumberText.{is_number, value, cut}
@@ -15,7 +19,8 @@ use Rattle.identity.proofs.BitsText.{length-digit_bits}
 use Rattle.identity.proofs.NumberText.{all_of_number}
 use Rattle.identity.specs.declared.fault.Fault.{Fault}
 use Rattle.identity.specs.declared.fault.Fault.TheVariants.{BadText, OutOfRange}
-use Rattle.identity.proofs.Texts.{none_some, some_same, ok_same, chosen_ok, chosen_some, both, le_test, test_le, decimal_all, value-decimal, number_of_decimal, decimal_of_number, cut_again, cut_only, judged_ok, judged_bad_if, judged_bad_then, not_bad, then_some, chosen_err, judged_err}
+use Rattle.identity.proofs.Texts.{none_some, ok_same, chosen_ok, chosen_some, decimal_all, value-decimal, number_of_decimal, decimal_of_number}
+use Rattle.identity.proofs.Texts.{cut_again, cut_only, judged_ok, judged_bad_if, judged_bad_then, not_bad, then_some, chosen_err, judged_err}
 use Rattle.identity.proofs.IdentityTexts.{none_are_zeros, zeros_are_none}
 
 -- ---- what is printed
@@ -70,22 +75,30 @@ unfolding is_filled
 filled_again bits digits fill few padded =
     let zeros = replicate fill false in
     let size : 4 * length digits ≡ length bits + fill = sym (length-digit_bits digits) ∙ ap length padded ∙ length-append bits zeros ∙ ap (λ (k : ℕ). length bits + k) (length-replicate fill false) in
-    let enough : nat_le (length bits) (4 * length digits) ≡ true = le_test (length bits) (4 * length digits) (omega (arith, size)) in
+    let enough : nat_le (length bits) (4 * length digits) ≡ true = test_by_le (length bits) (4 * length digits) (omega (arith, size)) in
     let needed : nat_lt (4 * length digits) (length bits + 4) ≡ true = grind (arith, size, few) in
-    let rest : number (drop (length bits) (digit_bits digits)) ≡ 0 = ap (λ (l : List Bool). number (drop (length bits) l)) padded ∙ ap number (drop_at bits zeros (length bits) refl) ∙ zeros_are_none fill in
+    let rest : number (drop (length bits) (digit_bits digits)) ≡ 0 = ap (λ (l : List Bool). number (drop (length bits) l)) padded ∙
+    ap number (drop_at bits zeros (length bits) refl) ∙ zeros_are_none fill in
     rw (enough, needed, eq-eqb (number (drop (length bits) (digit_bits digits))) 0 rest) refl
 
-filled_only : (n : ℕ) (digits : List ℕ) → is_filled n digits ≡ true → (n ≤ 4 * length digits) × (4 * length digits < n + 4) × (digit_bits digits ≡ take n (digit_bits digits) ++ replicate (4 * length digits - n) false)
+filled_only : (n : ℕ) (digits : List ℕ) → is_filled n digits ≡ true → (n ≤ 4 * length digits) × (4 * length digits < n + 4) ×
+    (digit_bits digits ≡ take n (digit_bits digits) ++ replicate (4 * length digits - n) false)
 unfolding is_filled
 filled_only n digits e =
-    let whole = both (nat_le n (4 * length digits) && nat_lt (4 * length digits) (n + 4)) (number (drop n (digit_bits digits)) == 0) e in
-    let prefix = both (nat_le n (4 * length digits)) (nat_lt (4 * length digits) (n + 4)) whole.0 in
-    let enough = test_le n (4 * length digits) prefix.0 in
+    let whole = both_true (nat_le n (4 * length digits) && nat_lt (4 * length digits) (n + 4)) (number (drop n (digit_bits digits)) == 0) e in
+    let prefix = both_true (nat_le n (4 * length digits)) (nat_lt (4 * length digits) (n + 4)) whole.0 in
+    let enough = le_by_test n (4 * length digits) prefix.0 in
     let needed : 4 * length digits < n + 4 = grind (arith, nat_tests, prefix.1) in
     let none : number (drop n (digit_bits digits)) ≡ 0 = grind (arith, nat_tests, whole.1) in
     let size : length (drop n (digit_bits digits)) ≡ 4 * length digits - n = omega (arith, length-drop n (digit_bits digits), length-digit_bits digits) in
     let zeros : drop n (digit_bits digits) ≡ replicate (4 * length digits - n) false = none_are_zeros (drop n (digit_bits digits)) none ∙ ap (λ (k : ℕ). replicate k false) size in
     (enough, needed, sym (take-append-drop n (digit_bits digits)) ∙ ap (λ (l : List Bool). take n (digit_bits digits) ++ l) zeros)
+
+-- more than 16 digits have more than 64 bits
+pub many_bits : (n : ℕ) (digits : List ℕ) → 16 < length digits → is_filled n digits ≡ true → 64 < length (take n (digit_bits digits))
+many_bits n digits many filled =
+    let size = filled_only n digits filled in
+    omega (arith, many, size.0, size.1, length-take n (digit_bits digits), length-digit_bits digits)
 
 pub reading_bits_again : (bits : List Bool) (text : List ℕ) → length bits ≤ 2048 → SpellsBits text bits → reading_bits text ≡ Ok bits
 unfolding reading_bits bits_form bits_len
@@ -95,14 +108,14 @@ reading_bits_again bits text le spells =
     let colon : is_ascii_digit 58 ≡ false = refl in
     let parts : cut 58 text ≡ Some (decimal n, spells.digits) = ap (cut 58) spells.spelt ∙ cut_again is_ascii_digit 58 (decimal n) spells.digits (decimal_all n small) colon in
     let prefix : take n (digit_bits spells.digits) ≡ bits = ap (take n) spells.padded ∙ take_at bits (replicate spells.fill false) n refl in
-    rw (parts, number_of_decimal n small, spells.hexadecimal, value-decimal n small, filled_again bits spells.digits spells.fill spells.few spells.padded, le_test n 2048 le) (ap Ok prefix)
+    rw (parts, number_of_decimal n small, spells.hexadecimal, value-decimal n small, filled_again bits spells.digits spells.fill spells.few spells.padded, test_by_le n 2048 le) (ap Ok prefix)
 
 IsForm : List ℕ → ℕ × List ℕ → Type 0
 IsForm text q = (count : List ℕ) × (text ≡ count ++ 58 ∷ q.1) × (is_number count ≡ true) × (value count ≡ q.0) × (list_all is_ascii_hexdigit q.1 ≡ true) × (is_filled q.0 q.1 ≡ true)
 
 mapped_some : (digits : List ℕ) (o : Option ℕ) (q : ℕ × List ℕ) → option_map (λ n. (n, digits)) o ≡ Some q → (n : ℕ) × (o ≡ Some n) × ((n, digits) ≡ q)
 mapped_some digits None q e = absurd (none_some q e)
-mapped_some digits (Some n) q e = (n, refl, some_same (n, digits) q e)
+mapped_some digits (Some n) q e = (n, refl, some_is (n, digits) q e)
 
 form_only : (text : List ℕ) (q : ℕ × List ℕ) → bits_form text ≡ Some q → IsForm text q
 unfolding bits_form bits_len IsForm
@@ -112,9 +125,9 @@ form_only text q e =
     let digits = (first.0).1 in
     let second = mapped_some digits _ q first.2 in
     let tests = chosen_some (is_number count && list_all is_ascii_hexdigit digits && is_filled (value count) digits) _ second.0 second.1 in
-    let left = both (is_number count && list_all is_ascii_hexdigit digits) (is_filled (value count) digits) tests.0 in
-    let prefix = both (is_number count) (list_all is_ascii_hexdigit digits) left.0 in
-    let is : value count ≡ second.0 = some_same (value count) second.0 tests.1 in
+    let left = both_true (is_number count && list_all is_ascii_hexdigit digits) (is_filled (value count) digits) tests.0 in
+    let prefix = both_true (is_number count) (list_all is_ascii_hexdigit digits) left.0 in
+    let is : value count ≡ second.0 = some_is (value count) second.0 tests.1 in
     let filled : is_filled second.0 digits ≡ true = ap (λ (n : ℕ). is_filled n digits) (sym is) ∙ left.1 in
     subst (IsForm text) second.2 (count, cut_only 58 text first.0 first.1, prefix.0, is, prefix.1, filled)
 
@@ -146,7 +159,7 @@ reading_bits_only bits text e =
     let digits = (found.0).1 in
     let form = form_only text found.0 found.1 in
     let range = chosen_ok (nat_le n 2048) _ _ bits found.2 in
-    let le : n ≤ 2048 = test_le n 2048 range.0 in
+    let le : n ≤ 2048 = le_by_test n 2048 range.0 in
     let filled = filled_only n digits form.5 in
     let is : take n (digit_bits digits) ≡ bits = ok_same _ bits range.1 in
     let size : n ≡ length bits = omega (arith, ap length is, length-take n (digit_bits digits), length-digit_bits digits, filled.0) in

@@ -59,7 +59,8 @@ grown bytes k p =
     ap (λ (l : List Bool). get_or l p false) (flat_map-append (num 8) bytes (replicate k 0)) ∙
     elim (cases_lt p (length (bits_of bytes))) [
       | inl lt ↦ get_or_append_left (bits_of bytes) (bits_of (replicate k 0)) false p lt
-      | inr le ↦ get_or-append_right (bits_of bytes) (bits_of (replicate k 0)) (length (bits_of bytes)) p false refl le ∙ zeros k (p - length (bits_of bytes)) ∙ sym (get_or_past (bits_of bytes) p false le)
+      | inr le ↦ get_or-append_right (bits_of bytes) (bits_of (replicate k 0)) (length (bits_of bytes)) p false refl le ∙
+          zeros k (p - length (bits_of bytes)) ∙ sym (get_or_past (bits_of bytes) p false le)
     ]
 
 -- ---- what bytes show
@@ -68,13 +69,6 @@ pub shown_is : (bytes : List ℕ) (bits : List Bool) → Shows bytes bits → le
 shown_is bytes bits shows room =
     let len : length (take (length bits) (bits_of bytes)) ≡ length bits = omega (arith, length-take (length bits) (bits_of bytes), length-bits_of bytes) in
     ext_get_or false (take (length bits) (bits_of bytes)) bits len (λ i lt. get_or-take (length bits) (bits_of bytes) i false (omega arith) ∙ shows i)
-
-pub shows_filled : (bytes : List ℕ) (len : ℕ) → ((i : ℕ) → len ≤ i → get_or (bits_of bytes) i false ≡ false) → Shows bytes (take len (bits_of bytes))
-shows_filled bytes len fill i =
-    elim (cases_lt i len) [
-      | inl lt ↦ sym (get_or-take len (bits_of bytes) i false lt)
-      | inr le ↦ fill i le ∙ sym (get_or_past (take len (bits_of bytes)) i false (omega (arith, length-take len (bits_of bytes))))
-    ]
 
 pub length_packed : (bytes : List ℕ) (len : ℕ) → IsPacked bytes len → length (take len (bits_of bytes)) ≡ len
 length_packed bytes len packed = let room = packed.room in omega (arith, length-take len (bits_of bytes), length-bits_of bytes)
@@ -92,7 +86,9 @@ grown_prefix bytes k len room =
 pub packed_from : (bytes : List ℕ) (bits : List Bool) (len : ℕ) → Shows bytes bits → length bits ≡ len → len ≤ 8 * length bytes → 8 * length bytes < len + 8 → IsPacked bytes len
 packed_from bytes bits len shows is_len room tight = record { room = room; tight = tight; fill = λ i le. shows i ∙ get_or_past bits i false (omega arith) }
 
-module _ (old big : List ℕ) (len w n : ℕ) (holds : len ≤ 8 * length old) (few : 8 * length old < len + w + 8) (clear : (i : ℕ) → len ≤ i → get_or (bits_of old) i false ≡ false) (is_big : big ≡ take n old ++ replicate (n - length old) 0) (is_n : n ≡ (len + w) / 8 + min 1 ((len + w) % 8)) where
+module _ (old big : List ℕ) (len w n : ℕ) (holds : len ≤ 8 * length old) (few : 8 * length old < len + w + 8)
+    (clear : (i : ℕ) → len ≤ i → get_or (bits_of old) i false ≡ false) (is_big : big ≡ take n old ++ replicate (n - length old) 0)
+    (is_n : n ≡ (len + w) / 8 + min 1 ((len + w) % 8)) where
   enough : (len + w ≤ 8 * n) × (8 * n < (len + w) + 8) × (length old ≤ n)
   enough =
       let h = div_ceil_times (len + w) 8 (omega arith) in

@@ -1,5 +1,6 @@
 -- Two hexadecimal digits are a byte.
-use Rattle.std.proofs.Common.{◌≡◌, ℕ, zero, suc, ◌+◌, ◌-◌, ◌*◌, ◌/◌, ◌%◌, ◌^◌, ◌<◌, ◌≤◌, Bool, true, false, ◌&&◌, List, [], ◌∷◌, ◌++◌, length, take, drop, get_or, replicate, nat_le, refl, sym, ap, ◌∙◌, inl, inr, arith}
+use Rattle.std.proofs.Common.{◌≡◌, ℕ, zero, ◌+◌, ◌-◌, ◌*◌, ◌/◌, ◌%◌, ◌^◌, ◌<◌, ◌≤◌, Bool, true, false, ◌&&◌, List, [], ◌∷◌, ◌++◌, length, take, drop}
+use Rattle.std.proofs.Common.{get_or, replicate, nat_le, refl, sym, ap, ◌∙◌, inl, inr, arith}
 use Rattle.std.specs.Prelude.{◌==◌, nat_lt}
 use Rattle.std.specs.Char.{digit_value}
 use Rattle.std.proofs.lemmas.Nat.{shl-shr}
@@ -7,11 +8,12 @@ use Rattle.std.proofs.Math.Nat.{mul-mod_left}
 use Rattle.std.proofs.lemmas.Bool.{cases_lt}
 use Rattle.std.proofs.lemmas.Bool.Decides.{nat_tests}
 use Rattle.std.proofs.lemmas.List.{append-nil, append_assoc, take_all, take-append-le, get_or_append_left, get_or-append_right, get_or-drop, length-append, length-replicate}
+use Rattle.base.proofs.Bools.{first_true, second_true}
+use Rattle.base.proofs.Lists.{zeros_get}
 use Rattle.identity.specs.Number.{num, number}
 use Rattle.identity.specs.Inside.NumberLaws.{num-number, num-zero, num-append, num-mod, zeros_if}
 use Rattle.identity.specs.Packed.{bits_of, IsPacked}
 use Rattle.identity.specs.BitsText.{digit_bits, is_filled}
-use Rattle.identity.proofs.NumberText.{and_left, and_right}
 use Rattle.identity.proofs.Numbers.{bits_of-append, one_byte}
 use Rattle.identity.proofs.Bytes.{length-bits_of}
 use Rattle.identity.proofs.BitsText.{length-digit_bits, digit_bits_more}
@@ -60,7 +62,8 @@ odd_digits digits bytes i d odd len is small value =
     let last = num 4 d in
     let place : length digits - 1 ≡ 2 * i = omega (arith, len) in
     let digit : digit_value (get_or digits (2 * i) 0) ≡ d = ap (λ (n : ℕ). digit_value (get_or digits n 0)) (sym place) ∙ sym value in
-    let one : digit_bits (take (2 * i + 1) digits) ≡ digit_bits (take (2 * i) digits) ++ last = digit_bits_more digits (2 * i) (omega (arith, len)) ∙ ap (λ (n : ℕ). digit_bits (take (2 * i) digits) ++ num 4 n) digit in
+    let one : digit_bits (take (2 * i + 1) digits) ≡ digit_bits (take (2 * i) digits) ++ last = digit_bits_more digits (2 * i) (omega (arith, len)) ∙
+    ap (λ (n : ℕ). digit_bits (take (2 * i) digits) ++ num 4 n) digit in
     let all : take (2 * i + 1) digits ≡ digits = take_all (2 * i + 1) digits (omega (arith, len)) in
     let plain : 16 * d ≡ 16 * d + 0 = omega arith in
     let byte : num 8 (16 * d) ≡ last ++ num 4 0 = ap (num 8) plain ∙ halves d 0 small (omega arith) in
@@ -70,11 +73,6 @@ odd_digits digits bytes i d odd len is small value =
     ∙ ap (λ (k : ℕ). digit_bits digits ++ replicate (4 * k) false) (sym odd)
 
 -- ---- bytes of filled digits are packed
-
-zeros_get : (n i : ℕ) → get_or (replicate n false) i false ≡ false
-zeros_get zero i = refl
-zeros_get (suc n) zero = refl
-zeros_get (suc n) (suc i) = zeros_get n i
 
 no_number : (bits : List Bool) (i : ℕ) → number bits ≡ 0 → get_or bits i false ≡ false
 no_number bits i none = ap (λ (l : List Bool). get_or l i false) (sym (num-number bits) ∙ ap (num (length bits)) none ∙ num-zero (length bits)) ∙ zeros_get (length bits) i
@@ -86,10 +84,10 @@ module _ (digits bytes : List ℕ) (len k : ℕ) (is : bits_of bytes ≡ digit_b
       let room = nat_le len (4 * length digits) in
       let tight = nat_lt (4 * length digits) (len + 4) in
       let zero = number (drop len (digit_bits digits)) == 0 in
-      let both : (room && tight) ≡ true = and_left (room && tight) zero filled in
-      let last : zero ≡ true = and_right (room && tight) zero filled in
-      let one : room ≡ true = and_left room tight both in
-      let two : tight ≡ true = and_right room tight both in
+      let both : (room && tight) ≡ true = first_true (room && tight) zero filled in
+      let last : zero ≡ true = second_true (room && tight) zero filled in
+      let one : room ≡ true = first_true room tight both in
+      let two : tight ≡ true = second_true room tight both in
       (grind (arith, nat_tests, one), grind (arith, nat_tests, two), grind (arith, nat_tests, last))
 
   pub clear : (i : ℕ) → len ≤ i → get_or (bits_of bytes) i false ≡ false

@@ -39,7 +39,8 @@ pub laid : (head bytes p q r s t u v w : List ℕ) → length head ≡ 3 → len
     → get_or head 0 0 ∷ get_or head 1 0 ∷ get_or head 2 0 ∷ get_or p 0 0 ∷ get_or p 1 0 ∷ get_or q 0 0 ∷ get_or q 1 0 ∷ get_or r 0 0 ∷ get_or r 1 0 ∷ get_or s 0 0 ∷ get_or s 1 0
     ∷ get_or t 0 0 ∷ get_or t 1 0 ∷ get_or u 0 0 ∷ get_or u 1 0 ∷ get_or v 0 0 ∷ get_or v 1 0 ∷ get_or w 0 0 ∷ get_or w 1 0 ∷ [] ≡ head ++ hexes bytes
 laid head bytes p q r s t u v w three eight ps qs rs ss ts us vs ws =
-    (λ i. get_or head 0 0 ∷ get_or head 1 0 ∷ get_or head 2 0 ∷ get_or (ps i) 0 0 ∷ get_or (ps i) 1 0 ∷ get_or (qs i) 0 0 ∷ get_or (qs i) 1 0 ∷ get_or (rs i) 0 0 ∷ get_or (rs i) 1 0 ∷ get_or (ss i) 0 0 ∷ get_or (ss i) 1 0
+    (λ i. get_or head 0 0 ∷ get_or head 1 0 ∷ get_or head 2 0 ∷ get_or (ps i) 0 0 ∷ get_or (ps i) 1 0 ∷ get_or (qs i) 0 0 ∷ get_or (qs i) 1 0 ∷ get_or
+    (rs i) 0 0 ∷ get_or (rs i) 1 0 ∷ get_or (ss i) 0 0 ∷ get_or (ss i) 1 0
     ∷ get_or (ts i) 0 0 ∷ get_or (ts i) 1 0 ∷ get_or (us i) 0 0 ∷ get_or (us i) 1 0 ∷ get_or (vs i) 0 0 ∷ get_or (vs i) 1 0 ∷ get_or (ws i) 0 0 ∷ get_or (ws i) 1 0 ∷ [])
     ∙ ap (λ (l : List ℕ). get_or head 0 0 ∷ get_or head 1 0 ∷ get_or head 2 0 ∷ l) (sym (eight_pairs bytes eight))
     ∙ ap (λ (l : List ℕ). l ++ hexes bytes) (sym (three_items head three))
@@ -60,7 +61,8 @@ from_shown zero n x y digits le = let e : 3 + n - 0 ≡ suc (suc (suc n)) = omeg
 from_shown (suc zero) n x y digits le = let e : 3 + n - 1 ≡ suc (suc n) = omega arith in ap (λ (k : ℕ). take k (y ∷ 58 ∷ digits)) e
 from_shown (suc (suc k)) n x y digits le = absurd (omega (arith, le))
 
-pub few_text : (bytes text : List ℕ) (bits : List Bool) (len start n : ℕ) → len ≡ length bits → length bits ≤ 64 → length bytes ≡ 8 → IsClear bytes (length bits) → take (length bits) (bits_of bytes) ≡ bits
+pub few_text : (bytes text : List ℕ) (bits : List Bool) (len start n : ℕ) → len ≡ length bits → length bits ≤ 64 → length bytes ≡ 8 →
+    IsClear bytes (length bits) → take (length bits) (bits_of bytes) ≡ bits
     → n ≡ length bits / 4 + min 1 (length bits % 4) → start ≤ 1 → decimal len ≡ drop start ((48 + len / 10) ∷ (48 + len % 10) ∷ [])
     → text ≡ (48 + len / 10) ∷ (48 + len % 10) ∷ 58 ∷ hexes bytes → take (3 + n - start) (drop start text) ≡ bits_text bits
 unfolding bits_text

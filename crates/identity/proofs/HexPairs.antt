@@ -1,5 +1,6 @@
 -- The digits of bytes: two of each. The digits of bits are the first of them.
-use Rattle.std.proofs.Common.{◌≡◌, ℕ, zero, suc, ◌+◌, ◌-◌, ◌*◌, ◌/◌, ◌%◌, ◌<◌, ◌≤◌, min, Bool, true, false, List, [], ◌∷◌, ◌++◌, length, get_or, take, drop, replicate, refl, sym, ap, ◌∙◌, arith, rules}
+use Rattle.std.proofs.Common.{◌≡◌, ℕ, zero, suc, ◌+◌, ◌-◌, ◌*◌, ◌/◌, ◌%◌, ◌<◌, ◌≤◌, min, Bool, true, false, List, [], ◌∷◌, ◌++◌, length, get_or, take}
+use Rattle.std.proofs.Common.{drop, replicate, refl, sym, ap, ◌∙◌, arith, rules}
 use Rattle.std.specs.Fmt.{digit_glyph}
 use Rattle.std.proofs.lemmas.List.{append-nil, drop_all, length-drop, length-replicate, take_at, take_more, take_all, take-append-drop, length-append, length-take}
 use Rattle.std.proofs.lemmas.Slice.{overwrites}
@@ -48,10 +49,8 @@ one_more (x ∷ bytes) (suc i) inside =
 
 -- ---- the digits of the first bits, where what follows them is zeros
 
-IsBlank : List Bool → ℕ → Type 0
-IsBlank bits len = (i : ℕ) → len ≤ i → get_or bits i false ≡ false
-
-pub hex_prefix : (bits : List Bool) (len m : ℕ) → ((i : ℕ) → len ≤ i → get_or bits i false ≡ false) → len ≤ 4 * m → 4 * m < len + 4 → 4 * m ≤ length bits → hex_of (take len bits) ≡ take m (hex_of bits)
+pub hex_prefix : (bits : List Bool) (len m : ℕ) → ((i : ℕ) → len ≤ i → get_or bits i false ≡ false) → len ≤ 4 * m → 4 * m < len + 4 →
+    4 * m ≤ length bits → hex_of (take len bits) ≡ take m (hex_of bits)
 unfolding hex_of
 hex_prefix bits zero zero blank enough few room = refl
 hex_prefix bits (suc len) zero blank enough few room = absurd (omega arith)

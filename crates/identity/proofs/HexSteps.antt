@@ -1,9 +1,8 @@
 -- One digit of the text of bits.
 use Rattle.std.proofs.Common.{◌≡◌, ℕ, ◌+◌, ◌-◌, ◌*◌, ◌^◌, ◌<◌, ◌≤◌, min, Bool, true, false, List, [], ◌∷◌, ◌++◌, length, take, drop, sym, ap, subst, ◌∙◌, arith}
-use Rattle.std.proofs.lemmas.List.{append-nil, append_assoc, length-append, drop-drop, take-take, length-take, length-drop}
+use Rattle.std.proofs.lemmas.List.{append-nil, length-append}
 use Rattle.std.specs.Fmt.{digit_glyph}
 use Rattle.identity.specs.Number.{number}
-use Rattle.identity.specs.NumberText.{IsPrefixOf}
 use Rattle.identity.specs.BitsText.{hex_of}
 
 one : (a : Bool) → number (a ∷ false ∷ false ∷ false ∷ []) ≡ number (a ∷ []) * 2 ^ 3
@@ -48,30 +47,5 @@ unfolding hex_of
 hex_done out whole [] le so_far = sym (append-nil out) ∙ so_far
 hex_done out whole (b ∷ bits) le so_far = absurd (omega arith)
 
-pub whole_digit : (bits : List Bool) (at g : ℕ) → at + 4 ≤ length bits → g ≡ digit_glyph true (number (take 4 (drop at bits))) → hex_of (drop at bits) ≡ g ∷ hex_of (drop (at + 4) bits)
-whole_digit bits at g room is =
-    let some : 4 ≤ length (drop at bits) = omega (arith, length-drop at bits) in
-    let one : number (take 4 (drop at bits)) * 2 ^ 0 ≡ number (take 4 (drop at bits)) = omega arith in
-    hex_step (drop at bits) 4 (omega arith) (omega arith) ∙ ap (λ (n : ℕ). digit_glyph true n ∷ hex_of (drop 4 (drop at bits))) one
-    ∙ ap (λ (l : List Bool). digit_glyph true (number (take 4 (drop at bits))) ∷ hex_of l) (drop-drop 4 at bits) ∙ ap (λ (n : ℕ). n ∷ hex_of (drop (at + 4) bits)) (sym is)
-
--- what is kept twice is kept
-pub prefix_of_prefix : (a b c : List ℕ) → IsPrefixOf a b → IsPrefixOf b c → IsPrefixOf a c
-prefix_of_prefix a b c one two =
-    let short : length a ≤ length b = omega (arith, ap length one, length-take (length a) b) in
-    sym (take-take (length a) (length b) c short) ∙ ap (take (length a)) two ∙ one
-
 pub same_lengths : (a b x y : List ℕ) → a ++ x ≡ b ++ y → length a + length x ≡ length b + length y
 same_lengths a b x y e = sym (length-append a x) ∙ ap length e ∙ length-append b y
-
--- a byte of two digits
-pub whole_pair : (out bytes : List ℕ) (bits : List Bool) (i high low : ℕ) → out ++ hex_of (drop (8 * i) bits) ≡ bytes
-    → hex_of (drop (4 * (2 * i)) bits) ≡ high ∷ hex_of (drop (4 * (2 * i) + 4) bits) → hex_of (drop (4 * (2 * i + 1)) bits) ≡ low ∷ hex_of (drop (4 * (2 * i + 1) + 4) bits)
-    → (out ++ high ∷ low ∷ []) ++ hex_of (drop (8 * (i + 1)) bits) ≡ bytes
-whole_pair out bytes bits i high low so_far first second =
-    let start : 8 * i ≡ 4 * (2 * i) = omega arith in
-    let middle : 4 * (2 * i) + 4 ≡ 4 * (2 * i + 1) = omega arith in
-    let end : 4 * (2 * i + 1) + 4 ≡ 8 * (i + 1) = omega arith in
-    let both : hex_of (drop (8 * i) bits) ≡ high ∷ low ∷ hex_of (drop (8 * (i + 1)) bits) =
-    ap (λ (n : ℕ). hex_of (drop n bits)) start ∙ first ∙ ap (λ (n : ℕ). high ∷ hex_of (drop n bits)) middle ∙ ap (λ (l : List ℕ). high ∷ l) (second ∙ ap (λ (n : ℕ). low ∷ hex_of (drop n bits)) end) in
-    append_assoc out (high ∷ low ∷ []) (hex_of (drop (8 * (i + 1)) bits)) ∙ ap (λ (l : List ℕ). out ++ l) (sym both) ∙ so_far

@@ -8,7 +8,8 @@ use Rattle.identity.specs.Path.{Path, path_cmp, id_path, begins}
 use Rattle.identity.specs.Inside.PathLaws.{begins_if}
 use Rattle.identity.specs.Identity.{identity_number, AreFields, mcc_of, mnc_of, ssi_of}
 
-pub fields_of_number : (mcc mnc ssi : ℕ) → AreFields mcc mnc ssi → (mcc_of (identity_number mcc mnc ssi) ≡ mcc) × (mnc_of (identity_number mcc mnc ssi) ≡ mnc) × (ssi_of (identity_number mcc mnc ssi) ≡ ssi)
+pub fields_of_number : (mcc mnc ssi : ℕ) → AreFields mcc mnc ssi → (mcc_of (identity_number mcc mnc ssi) ≡ mcc) ×
+    (mnc_of (identity_number mcc mnc ssi) ≡ mnc) × (ssi_of (identity_number mcc mnc ssi) ≡ ssi)
 fields_of_number mcc mnc ssi are = let a = are.0 in let b = are.1 in let c = are.2 in (omega arith, omega arith, omega arith)
 
 pub number_of_fields : (n : ℕ) → n < 2 ^ 48 → AreFields (mcc_of n) (mnc_of n) (ssi_of n) × (identity_number (mcc_of n) (mnc_of n) (ssi_of n) ≡ n)

@@ -1,5 +1,6 @@
 -- Texts of identities and prefixes: what is written is what is read.
-use Rattle.std.proofs.Common.{◌≡◌, ℕ, ◌-◌, ◌^◌, ◌<◌, ◌≤◌, Bool, true, false, ◌&&◌, List, [], ◌∷◌, ◌++◌, length, take, drop, replicate, refl, sym, ap, subst, ◌∙◌, arith, append_assoc, Some, Result, Ok, Err, nat_le}
+use Rattle.std.proofs.Common.{◌≡◌, ℕ, ◌-◌, ◌^◌, ◌<◌, ◌≤◌, Bool, true, false, ◌&&◌, List, [], ◌∷◌, ◌++◌, length, take, drop, replicate, refl, sym, ap}
+use Rattle.std.proofs.Common.{subst, ◌∙◌, arith, append_assoc, Some, Result, Ok, Err, nat_le}
 use Rattle.std.specs.Prelude.{◌↔◌, ◌⊎◌, ◌==◌, ◌||◌, decimal}
 use Rattle.std.specs.Char.{is_ascii_digit}
 use Rattle.std.specs.List.{list_all}
@@ -9,6 +10,9 @@ use Rattle.std.proofs.lemmas.List.{take_at, drop_at, take-append-drop, length-ap
 use Rattle.std.proofs.lemmas.List.Folds.{list_all-append}
 use Rattle.std.proofs.lemmas.Nat.{pow_pos}
 use Rattle.std.proofs.Math.Nat.{mod-eq_of_lt}
+use Rattle.base.proofs.Bools.{both_true}
+use Rattle.base.proofs.Numbers.{test_by_le, le_by_test}
+use Rattle.base.proofs.Options.{some_is}
 use Rattle.identity.specs.Number.{num, number}
 use Rattle.identity.specs.Inside.NumberLaws.{number-lt, number-num_mod, num-zero, num-number}
 use Rattle.identity.specs.Path.{Path, id_path, left_aligned}
@@ -16,7 +20,9 @@ use Rattle.identity.specs.Inside.PathLaws.{length-id_path, number-id_path, id_pa
 use Rattle.identity.specs.Identity.{identity_number, mcc_of, mnc_of, ssi_of}
 use Rattle.identity.specs.NumberText.{is_number, value, cut}
 use Rattle.identity.specs.IdentityText.{identity_text, prefix_text, three_numbers, identity_of, reading_identity, prefix_of, prefix_within, prefix_form, IsIdentityForm, IsPrefixForm, reading_prefix}
-use Rattle.identity.proofs.Texts.{err_ok, some_same, ok_same, chosen_ok, chosen_some, both, le_test, test_le, decimal_all, value-decimal, number_of_decimal, decimal_of_number, cut_again, cut_only, judged_ok, judged_bad_if, judged_bad_then, not_bad, err_same, then_some, chosen_err, judged_err}
+use Rattle.identity.proofs.Texts.{err_ok, ok_same, chosen_ok, chosen_some, decimal_all, value-decimal, number_of_decimal, decimal_of_number}
+use Rattle.identity.proofs.Texts.{cut_again, cut_only, judged_ok, judged_bad_if, judged_bad_then, not_bad, err_same, then_some, chosen_err}
+use Rattle.identity.proofs.Texts.{judged_err}
 use Rattle.identity.specs.declared.fault.Fault.{Fault}
 use Rattle.identity.specs.declared.fault.Fault.TheVariants.{BadText, OutOfRange}
 use Rattle.identity.proofs.NumberText.{all_of_number}
@@ -26,7 +32,8 @@ use Rattle.identity.proofs.NumberText.{all_of_number}
 fields_back : (n : ℕ) → n < 2 ^ 48 → (mcc_of n ≤ 1023) × (mnc_of n ≤ 16383) × (ssi_of n ≤ 16777215) × (identity_number (mcc_of n) (mnc_of n) (ssi_of n) ≡ n)
 fields_back n small = (omega arith, omega arith, omega arith, omega arith)
 
-fields_of : (a b c : ℕ) → a ≤ 1023 → b ≤ 16383 → c ≤ 16777215 → (identity_number a b c < 2 ^ 48) × (mcc_of (identity_number a b c) ≡ a) × (mnc_of (identity_number a b c) ≡ b) × (ssi_of (identity_number a b c) ≡ c)
+fields_of : (a b c : ℕ) → a ≤ 1023 → b ≤ 16383 → c ≤ 16777215 → (identity_number a b c < 2 ^ 48) × (mcc_of (identity_number a b c) ≡ a) ×
+    (mnc_of (identity_number a b c) ≡ b) × (ssi_of (identity_number a b c) ≡ c)
 fields_of a b c la lb lc = (omega arith, omega arith, omega arith, omega arith)
 
 regroup : (a b c : List ℕ) → a ++ 45 ∷ b ++ 45 ∷ c ≡ a ++ 45 ∷ (b ++ 45 ∷ c)
@@ -48,17 +55,19 @@ identity_again n small =
     let a : mcc_of n < 2 ^ 64 = omega (arith, back.0) in
     let b : mnc_of n < 2 ^ 64 = omega (arith, back.1) in
     let c : ssi_of n < 2 ^ 64 = omega (arith, back.2) in
-    three_again (decimal (mcc_of n)) (decimal (mnc_of n)) (decimal (ssi_of n)) (decimal_all (mcc_of n) a) (decimal_all (mnc_of n) b) (number_of_decimal (mcc_of n) a) (number_of_decimal (mnc_of n) b) (number_of_decimal (ssi_of n) c)
+    three_again (decimal (mcc_of n)) (decimal (mnc_of n)) (decimal (ssi_of n)) (decimal_all (mcc_of n) a) (decimal_all (mnc_of n) b)
+    (number_of_decimal (mcc_of n) a) (number_of_decimal (mnc_of n) b) (number_of_decimal (ssi_of n) c)
 
-three_only : (text : List ℕ) (p : List ℕ × List ℕ × List ℕ) → three_numbers text ≡ Some p → (text ≡ p.0 ++ 45 ∷ p.1 ++ 45 ∷ p.2) × (is_number p.0 ≡ true) × (is_number p.1 ≡ true) × (is_number p.2 ≡ true)
+three_only : (text : List ℕ) (p : List ℕ × List ℕ × List ℕ) → three_numbers text ≡ Some p → (text ≡ p.0 ++ 45 ∷ p.1 ++ 45 ∷ p.2) ×
+    (is_number p.0 ≡ true) × (is_number p.1 ≡ true) × (is_number p.2 ≡ true)
 unfolding three_numbers
 three_only text p e =
     let first = then_some _ (cut 45 text) p e in
     let second = then_some _ (cut 45 (first.0).1) p first.2 in
     let forms = chosen_some (is_number (first.0).0 && is_number (second.0).0 && is_number (second.0).1) _ p second.2 in
-    let same : ((first.0).0, (second.0).0, (second.0).1) ≡ p = some_same _ p forms.1 in
-    let left = both (is_number (first.0).0 && is_number (second.0).0) (is_number (second.0).1) forms.0 in
-    let prefix = both (is_number (first.0).0) (is_number (second.0).0) left.0 in
+    let same : ((first.0).0, (second.0).0, (second.0).1) ≡ p = some_is _ p forms.1 in
+    let left = both_true (is_number (first.0).0 && is_number (second.0).0) (is_number (second.0).1) forms.0 in
+    let prefix = both_true (is_number (first.0).0) (is_number (second.0).0) left.0 in
     let whole : text ≡ (first.0).0 ++ 45 ∷ (second.0).0 ++ 45 ∷ (second.0).1 =
     cut_only 45 text first.0 first.1 ∙ ap (λ (t : List ℕ). (first.0).0 ++ 45 ∷ t) (cut_only 45 (first.0).1 second.0 second.1) ∙ sym (regroup (first.0).0 (second.0).0 (second.0).1) in
     subst (λ (q : List ℕ × List ℕ × List ℕ). (text ≡ q.0 ++ 45 ∷ q.1 ++ 45 ∷ q.2) × (is_number q.0 ≡ true) × (is_number q.1 ≡ true) × (is_number q.2 ≡ true)) same (whole, prefix.0, prefix.1, left.1)
@@ -71,20 +80,20 @@ identity_of_again n small =
       value-decimal (mcc_of n) (omega (arith, back.0)),
       value-decimal (mnc_of n) (omega (arith, back.1)),
       value-decimal (ssi_of n) (omega (arith, back.2)),
-      le_test (mcc_of n) 1023 back.0,
-      le_test (mnc_of n) 16383 back.1,
-      le_test (ssi_of n) 16777215 back.2,
+      test_by_le (mcc_of n) 1023 back.0,
+      test_by_le (mnc_of n) 16383 back.1,
+      test_by_le (ssi_of n) 16777215 back.2,
     ) (ap Ok back.3)
 
 identity_of_only : (a b c : List ℕ) (n : ℕ) → is_number a ≡ true → is_number b ≡ true → is_number c ≡ true → identity_of a b c ≡ Ok n → (n < 2 ^ 48) × (a ++ 45 ∷ b ++ 45 ∷ c ≡ identity_text n)
 unfolding identity_of identity_text
 identity_of_only a b c n na nb nc e =
     let ranges = chosen_ok (nat_le (value a) 1023 && nat_le (value b) 16383 && nat_le (value c) 16777215) _ _ n e in
-    let left = both (nat_le (value a) 1023 && nat_le (value b) 16383) (nat_le (value c) 16777215) ranges.0 in
-    let prefix = both (nat_le (value a) 1023) (nat_le (value b) 16383) left.0 in
-    let la = test_le (value a) 1023 prefix.0 in
-    let lb = test_le (value b) 16383 prefix.1 in
-    let lc = test_le (value c) 16777215 left.1 in
+    let left = both_true (nat_le (value a) 1023 && nat_le (value b) 16383) (nat_le (value c) 16777215) ranges.0 in
+    let prefix = both_true (nat_le (value a) 1023) (nat_le (value b) 16383) left.0 in
+    let la = le_by_test (value a) 1023 prefix.0 in
+    let lb = le_by_test (value b) 16383 prefix.1 in
+    let lc = le_by_test (value c) 16777215 left.1 in
     let is : identity_number (value a) (value b) (value c) ≡ n = ok_same _ n ranges.1 in
     let fields = fields_of (value a) (value b) (value c) la lb lc in
     let ta : a ≡ decimal (mcc_of n) = sym (decimal_of_number a na (omega (arith, la))) ∙ ap decimal (sym fields.1 ∙ ap mcc_of is) in
@@ -158,16 +167,17 @@ prefix_of_again : (p : Path) → length p ≤ 48 → prefix_of (left_aligned p) 
 unfolding prefix_of padded
 prefix_of_again p le =
     let zeros = replicate (48 - length p) false in
-    let rest : number (drop (length p) (id_path (left_aligned p))) ≡ 0 = ap (λ (l : Path). number (drop (length p) l)) (id_path-aligned p le) ∙ ap number (drop_at p zeros (length p) refl) ∙ zeros_are_none (48 - length p) in
+    let rest : number (drop (length p) (id_path (left_aligned p))) ≡ 0 = ap (λ (l : Path). number (drop (length p) l)) (id_path-aligned p le) ∙
+    ap number (drop_at p zeros (length p) refl) ∙ zeros_are_none (48 - length p) in
     let prefix : take (length p) (id_path (left_aligned p)) ≡ p = ap (take (length p)) (id_path-aligned p le) ∙ take_at p zeros (length p) refl in
-    rw (le_test (length p) 48 le, eq-eqb _ 0 rest) (ap Ok prefix)
+    rw (test_by_le (length p) 48 le, eq-eqb _ 0 rest) (ap Ok prefix)
 
 prefix_of_only : (n len : ℕ) (p : Path) → n < 2 ^ 48 → prefix_of n len ≡ Ok p → (length p ≡ len) × (len ≤ 48) × (left_aligned p ≡ n)
 unfolding prefix_of left_aligned
 prefix_of_only n len p small e =
     let tests = chosen_ok (nat_le len 48 && (number (drop len (id_path n)) == 0)) _ _ p e in
-    let each = both (nat_le len 48) (number (drop len (id_path n)) == 0) tests.0 in
-    let le : len ≤ 48 = test_le len 48 each.0 in
+    let each = both_true (nat_le len 48) (number (drop len (id_path n)) == 0) tests.0 in
+    let le : len ≤ 48 = le_by_test len 48 each.0 in
     let is : take len (id_path n) ≡ p = ok_same _ p tests.1 in
     let size : length p ≡ len = ap length (sym is) ∙ omega (arith, length-take len (id_path n), length-id_path n) in
     let back : 48 - length p ≡ length (drop len (id_path n)) = omega (arith, length-drop len (id_path n), length-id_path n, size) in
@@ -181,7 +191,7 @@ slash_free c = is_ascii_digit c || (c == 45)
 digits_free : (digits : List ℕ) → list_all is_ascii_digit digits ≡ true → list_all slash_free digits ≡ true
 unfolding slash_free
 digits_free [] all = refl
-digits_free (c ∷ digits) all = let each = both (is_ascii_digit c) (list_all is_ascii_digit digits) all in rw (each.0, digits_free digits each.1) refl
+digits_free (c ∷ digits) all = let each = both_true (is_ascii_digit c) (list_all is_ascii_digit digits) all in rw (each.0, digits_free digits each.1) refl
 
 identity_free : (n : ℕ) → n < 2 ^ 48 → list_all slash_free (identity_text n) ≡ true
 unfolding slash_free identity_text
@@ -199,7 +209,13 @@ reading_prefix_again p le =
     let small = aligned_below p le in
     let len : length p < 2 ^ 64 = omega (arith, le) in
     let slash : slash_free 47 ≡ false = refl in
-    rw (cut_again slash_free 47 (identity_text n) (decimal (length p)) (identity_free n small) slash, identity_again n small, number_of_decimal (length p) len, identity_of_again n small, value-decimal (length p) len)
+    rw (
+      cut_again slash_free 47 (identity_text n) (decimal (length p)) (identity_free n small) slash,
+      identity_again n small,
+      number_of_decimal (length p) len,
+      identity_of_again n small,
+      value-decimal (length p) len,
+    )
     (prefix_of_again p le)
 
 within_ok : (len : ℕ) (r : Result ℕ Fault) (p : Path) → prefix_within len r ≡ Ok p → (n : ℕ) × (r ≡ Ok n) × (prefix_of n len ≡ Ok p)
@@ -226,7 +242,7 @@ form_only text q e =
     let first = then_some _ (cut 47 text) q e in
     let second = then_some _ (three_numbers (first.0).0) q first.2 in
     let third = chosen_some (is_number (first.0).1) _ q second.2 in
-    let same : (second.0, (first.0).1) ≡ q = some_same _ q third.1 in
+    let same : (second.0, (first.0).1) ≡ q = some_is _ q third.1 in
     let three = three_only (first.0).0 second.0 second.1 in
     let whole : text ≡ (second.0).0 ++ 45 ∷ (second.0).1 ++ 45 ∷ (second.0).2 ++ 47 ∷ (first.0).1 = cut_only 47 text first.0 first.1 ∙ ap (λ (t : List ℕ). t ++ 47 ∷ (first.0).1) three.0 in
     subst (Form text) same (whole, three.1, three.2, three.3, third.0)

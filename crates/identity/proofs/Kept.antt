@@ -136,7 +136,8 @@ module _ (len w v : ℕ) (short new long : List ℕ) (bits : List Bool) (are : A
 
   pub put_same : take (len + w) (bits_of (kept (len + w) new long)) ≡ bits ++ num w v
   put_same =
-      let shown : take (length (take len (bits_of short) ++ num w v)) (bits_of new) ≡ take len (bits_of short) ++ num w v = shown_is new (take len (bits_of short) ++ num w v) shows (omega (arith, whole_len)) in
+      let shown : take (length (take len (bits_of short) ++ num w v)) (bits_of new) ≡ take len (bits_of short) ++ num w v =
+      shown_is new (take len (bits_of short) ++ num w v) shows (omega (arith, whole_len)) in
       short_same (len + w) new long room ∙ (rw whole_len at shown) ∙ ap (λ (l : List Bool). l ++ num w v) (sym (short_same len short long (omega arith)) ∙ is)
 
 -- bits in a list after those in place
@@ -152,7 +153,3 @@ appended_same len w v short old new bits is more put = long_same (len + w) short
 -- what is in place does not ask for the list
 pub unasked : (len : ℕ) (short old new : List ℕ) → len ≤ 64 → take len (bits_of (kept len short new)) ≡ take len (bits_of (kept len short old))
 unasked len short old new few = short_same len short new few ∙ sym (short_same len short old few)
-
--- packed bytes of more bits are kept in a list
-pub kept_packed : (len : ℕ) (short long : List ℕ) → length short ≡ 8 → 64 < len → IsPacked long len → AreKept len short long
-kept_packed len short long eight more packed = record { eight = eight; clear = λ few. absurd (omega arith); packed = λ long_enough. packed }

@@ -1,5 +1,5 @@
 -- The form of a number, and parts of a text.
-use Rattle.std.proofs.Common.{◌≡◌, ◌≢◌, ℕ, zero, suc, ◌+◌, ◌-◌, ◌*◌, ◌^◌, ◌<◌, ◌≤◌, Bool, true, false, not, ◌&&◌, List, [], ◌∷◌, length, take, drop, get_or, refl, sym, ap, ◌∙◌, arith, Some, None, nat_le}
+use Rattle.std.proofs.Common.{◌≡◌, ◌≢◌, ℕ, zero, suc, ◌+◌, ◌-◌, ◌*◌, ◌^◌, ◌<◌, ◌≤◌, true, false, not, List, [], ◌∷◌, length, take, drop, get_or, refl, sym, ap, ◌∙◌, arith, Some, None, nat_le}
 use Rattle.std.specs.Prelude.{◌==◌, if◌then◌else◌}
 use mathlib.Core.Bool.{false≢true}
 use Rattle.std.specs.Char.{is_ascii_digit}
@@ -14,23 +14,8 @@ use Rattle.std.proofs.lemmas.List.Sums.{fails_before_first}
 use Rattle.std.proofs.lemmas.Int.Digits.{digits_value_more}
 use Rattle.std.proofs.lemmas.Str.{digit_value_digit}
 use Rattle.std.proofs.lemmas.Str.Parse.{digits_value-take-le}
+use Rattle.base.proofs.Bools.{and_false, first_true, second_true, and_true}
 use Rattle.identity.specs.NumberText.{is_number, value, cut}
-
-and_true : (b : Bool) → (b && true) ≡ b
-and_true true = refl
-and_true false = refl
-
-pub and_false : (b : Bool) → (b && false) ≡ false
-and_false true = refl
-and_false false = refl
-
-pub and_left : (a b : Bool) → (a && b) ≡ true → a ≡ true
-and_left true b h = refl
-and_left false b h = absurd (false≢true h)
-
-pub and_right : (a b : Bool) → (a && b) ≡ true → b ≡ true
-and_right true b h = h
-and_right false b h = absurd (false≢true h)
 
 pub number_empty : (text : List ℕ) → length text ≡ 0 → is_number text ≡ false
 unfolding is_number
@@ -59,13 +44,13 @@ number_form (c ∷ d ∷ text) some head = let other : (c == 48) ≡ false = gri
 pub digit_in : (text : List ℕ) (i : ℕ) → list_all is_ascii_digit text ≡ true → i < length text → IsInRange 48 57 (get_or text i 0)
 digit_in [] i all inside = absurd (omega (arith, inside))
 digit_in (c ∷ text) zero all inside = grind (arith, all)
-digit_in (c ∷ text) (suc i) all inside = digit_in text i (and_right (is_ascii_digit c) (list_all is_ascii_digit text) all) (omega (arith, inside))
+digit_in (c ∷ text) (suc i) all inside = digit_in text i (second_true (is_ascii_digit c) (list_all is_ascii_digit text) all) (omega (arith, inside))
 
 pub all_of_number : (text : List ℕ) → is_number text ≡ true → list_all is_ascii_digit text ≡ true
 unfolding is_number
 all_of_number [] form = absurd (false≢true form)
 all_of_number (c ∷ []) form = and_true (is_ascii_digit c) ∙ form
-all_of_number (c ∷ d ∷ text) form = and_right (not (c == 48)) (list_all is_ascii_digit (c ∷ d ∷ text)) form
+all_of_number (c ∷ d ∷ text) form = second_true (not (c == 48)) (list_all is_ascii_digit (c ∷ d ∷ text)) form
 
 pub number_digit : (text : List ℕ) (i : ℕ) → is_number text ≡ true → i < length text → IsInRange 48 57 (get_or text i 0)
 number_digit text i form inside = digit_in text i (all_of_number text form) inside
@@ -104,15 +89,15 @@ pub all_take : (text : List ℕ) (n : ℕ) → list_all is_ascii_digit text ≡ 
 all_take text zero all = refl
 all_take [] (suc n) all = refl
 all_take (c ∷ text) (suc n) all =
-    rw (and_left (is_ascii_digit c) (list_all is_ascii_digit text) all, all_take text n (and_right (is_ascii_digit c) (list_all is_ascii_digit text) all)) refl
+    rw (first_true (is_ascii_digit c) (list_all is_ascii_digit text) all, all_take text n (second_true (is_ascii_digit c) (list_all is_ascii_digit text) all)) refl
 
 -- one digit more after digits alone
 pub all_more : (text : List ℕ) (i : ℕ) → list_all is_ascii_digit (take i text) ≡ true → i < length text → is_ascii_digit (get_or text i 0) ≡ true → list_all is_ascii_digit (take (i + 1) text) ≡ true
 all_more [] i prefix inside digit = absurd (omega (arith, inside))
 all_more (c ∷ text) zero prefix inside digit = rw digit refl
 all_more (c ∷ text) (suc i) prefix inside digit =
-    let first = and_left (is_ascii_digit c) (list_all is_ascii_digit (take i text)) prefix in
-    let rest = all_more text i (and_right (is_ascii_digit c) (list_all is_ascii_digit (take i text)) prefix) (omega (arith, inside)) digit in
+    let first = first_true (is_ascii_digit c) (list_all is_ascii_digit (take i text)) prefix in
+    let rest = all_more text i (second_true (is_ascii_digit c) (list_all is_ascii_digit (take i text)) prefix) (omega (arith, inside)) digit in
     let one : suc (i + 1) ≡ suc i + 1 = omega arith in
     ap (λ (n : ℕ). list_all is_ascii_digit (take n (c ∷ text))) (sym one) ∙ rw (first, rest) refl
 
@@ -139,12 +124,6 @@ value_large text i most large =
     let over : nat_le (value text) most ≡ false = grind (arith, whole) in
     rw over refl
 
-pub value_small : (text : List ℕ) (i most v : ℕ) → length text ≤ i → v ≡ value (take i text) → v ≤ most → Some v ≡ (if nat_le (value text) most then Some (value text) else None)
-value_small text i most v all is small =
-    let whole : v ≡ value text = is ∙ ap value (take_all i text all) in
-    let under : nat_le (value text) most ≡ true = grind (arith, whole, small) in
-    rw under (ap Some whole)
-
 -- the parts of a text
 pub absent : (mark : ℕ) (text : List ℕ) → ((k : ℕ) → k < length text → (get_or text k 0 == mark) ≡ false) → cut mark text ≡ None
 unfolding cut
@@ -154,7 +133,8 @@ absent mark (b ∷ text) none =
     let rest : cut mark text ≡ None = absent mark text (λ k inside. none (suc k) (omega (arith, inside))) in
     rw (first, rest) refl
 
-here : (mark : ℕ) (text : List ℕ) (at : ℕ) → at < length text → (get_or text at 0 == mark) ≡ true → ((k : ℕ) → k < at → (get_or text k 0 == mark) ≡ false) → cut mark text ≡ Some (take at text, drop (at + 1) text)
+here : (mark : ℕ) (text : List ℕ) (at : ℕ) → at < length text → (get_or text at 0 == mark) ≡ true →
+    ((k : ℕ) → k < at → (get_or text k 0 == mark) ≡ false) → cut mark text ≡ Some (take at text, drop (at + 1) text)
 unfolding cut
 here mark [] at inside found before = absurd (omega (arith, inside))
 here mark (b ∷ text) zero inside found before = rw found refl

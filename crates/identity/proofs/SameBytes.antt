@@ -26,7 +26,8 @@ bytes_from_bits [] (y ∷ b) low high e = absurd (omega (arith, ap length e, len
 bytes_from_bits (x ∷ a) [] low high e = absurd (omega (arith, ap length e, length-append (num 8 x) (flat_map (num 8) a), length-num 8 x))
 bytes_from_bits (x ∷ a) (y ∷ b) low high e =
     let first : num 8 x ≡ num 8 y = sym (prefix 8 (num 8 x) (flat_map (num 8) a) (length-num 8 x)) ∙ ap (take 8) e ∙ prefix 8 (num 8 y) (flat_map (num 8) b) (length-num 8 y) in
-    let rest : flat_map (num 8) a ≡ flat_map (num 8) b = sym (following 8 (num 8 x) (flat_map (num 8) a) (length-num 8 x)) ∙ ap (drop 8) e ∙ following 8 (num 8 y) (flat_map (num 8) b) (length-num 8 y) in
+    let rest : flat_map (num 8) a ≡ flat_map (num 8) b = sym (following 8 (num 8 x) (flat_map (num 8) a) (length-num 8 x)) ∙ ap (drop 8) e ∙
+    following 8 (num 8 y) (flat_map (num 8) b) (length-num 8 y) in
     let head : x ≡ y = sym (number-num 8 x (low 0)) ∙ ap number first ∙ number-num 8 y (high 0) in
     let tail : a ≡ b = bytes_from_bits a b (λ i. low (suc i)) (λ i. high (suc i)) rest in
     cc

@@ -1,5 +1,6 @@
 -- The form of bits whose digits are few.
-use Rattle.std.proofs.Common.{◌≡◌, ℕ, ◌+◌, ◌-◌, ◌*◌, ◌%◌, ◌^◌, ◌<◌, ◌≤◌, Bool, true, false, ◌&&◌, List, ◌++◌, length, take, drop, replicate, nat_le, nat_eq, refl, sym, ap, ◌∙◌, inl, inr, arith, Result, Some, None, Ok, Err}
+use Rattle.std.proofs.Common.{◌≡◌, ℕ, ◌+◌, ◌-◌, ◌*◌, ◌%◌, ◌^◌, ◌<◌, ◌≤◌, Bool, true, false, ◌&&◌, List, ◌++◌, length, take, drop, replicate, nat_le}
+use Rattle.std.proofs.Common.{nat_eq, refl, sym, ap, ◌∙◌, inl, inr, arith, Result, Some, None, Ok, Err}
 use Rattle.std.specs.Prelude.{◌==◌, nat_lt, if◌then◌else◌}
 use Rattle.std.specs.Char.{is_ascii_hexdigit}
 use Rattle.std.specs.Int.{bytes_high_first}
@@ -8,6 +9,7 @@ use Rattle.std.proofs.lemmas.Bool.{cases_lt}
 use Rattle.std.proofs.lemmas.Bool.Decides.{nat_tests}
 use Rattle.std.proofs.lemmas.Nat.{one_shl, shl_below}
 use Rattle.std.proofs.Math.Nat.{mod-eq_of_lt}
+use Rattle.base.proofs.Bools.{and_false}
 use Rattle.identity.specs.Number.{num, number}
 use Rattle.identity.specs.Inside.NumberLaws.{number-num_mod, drop-num}
 use Rattle.identity.specs.NumberText.{is_number, value, reading_number}
@@ -17,7 +19,6 @@ use Rattle.identity.specs.Inside.ReadDigits.{reading_digits}
 use Rattle.identity.proofs.DigitBytes.{digits_back, shifted_bits}
 use Rattle.identity.specs.declared.fault.Fault.{Fault}
 use Rattle.identity.specs.declared.fault.Fault.TheVariants.{BadText, OutOfRange}
-use Rattle.identity.proofs.NumberText.{and_false}
 use Rattle.identity.proofs.Texts.{chosen_ok, ok_same}
 use Rattle.identity.proofs.Words.{bits_of_high}
 
@@ -49,7 +50,8 @@ pub len_not_hexadecimal : (count digits : List ℕ) → list_all is_ascii_hexdig
 unfolding bits_len
 len_not_hexadecimal count digits other = rw (other, and_false (is_number count)) refl
 
-pub len_counted : (count digits : List ℕ) (n : ℕ) → list_all is_ascii_hexdigit digits ≡ true → reading_number (4 * length digits) count ≡ Ok n → (n ≤ 4 * length digits) × (bits_len count digits ≡ (if is_filled n digits then Some n else None))
+pub len_counted : (count digits : List ℕ) (n : ℕ) → list_all is_ascii_hexdigit digits ≡ true → reading_number (4 * length digits) count ≡ Ok n →
+    (n ≤ 4 * length digits) × (bits_len count digits ≡ (if is_filled n digits then Some n else None))
 unfolding bits_len reading_number
 len_counted count digits n all read =
     let room = 4 * length digits in
@@ -86,7 +88,8 @@ read_few count digits n is few = let within : nat_le n 2048 ≡ true = grind (ar
 
 -- ---- a number of a few digits in eight bytes
 
-pub eight : (v n x : ℕ) (bytes : List ℕ) → n ≤ 16 → v < 2 ^ (4 * n) → bytes ≡ bytes_high_first 8 x → x ≡ v * 2 ^ ((64 - 4 * n) % 64) % 2 ^ 64 → bits_of bytes ≡ num (4 * n) v ++ replicate (64 - 4 * n) false
+pub eight : (v n x : ℕ) (bytes : List ℕ) → n ≤ 16 → v < 2 ^ (4 * n) → bytes ≡ bytes_high_first 8 x → x ≡ v * 2 ^ ((64 - 4 * n) % 64) % 2 ^ 64 →
+    bits_of bytes ≡ num (4 * n) v ++ replicate (64 - 4 * n) false
 eight v n x bytes few fits is word =
     let k = 64 - 4 * n in
     let whole : 4 * n + k ≡ 64 = omega (arith, few) in

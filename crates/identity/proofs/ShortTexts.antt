@@ -1,5 +1,6 @@
 -- Short texts of identities, read in one pass.
-use Rattle.std.proofs.Common.{◌≡◌, ◌≢◌, ℕ, ◌+◌, ◌^◌, ◌<◌, ◌≤◌, Bool, true, false, ◌&&◌, List, ◌∷◌, ◌++◌, length, take, drop, get_or, ◌-◌, refl, sym, ap, subst, ◌∙◌, arith, Option, Some, None, inl, inr, nat_le}
+use Rattle.std.proofs.Common.{◌≡◌, ◌≢◌, ℕ, ◌+◌, ◌^◌, ◌<◌, ◌≤◌, Bool, true, false, ◌&&◌, List, ◌∷◌, ◌++◌, length, take, drop, get_or, ◌-◌, refl, sym}
+use Rattle.std.proofs.Common.{ap, subst, ◌∙◌, arith, Option, Some, None, inl, inr, nat_le}
 use mathlib.Core.Bool.{false≢true}
 use Rattle.std.specs.Prelude.{◌⊎◌, ◌==◌, ◌||◌, nat_lt, if◌then◌else◌, Ok, Err}
 use Rattle.std.specs.Char.{is_ascii_digit}
@@ -11,11 +12,12 @@ use Rattle.std.proofs.lemmas.Bool.Decides.{nat_tests}
 use Rattle.std.proofs.lemmas.Bool.{cases_eq, cases_lt, ne_eqb, eq-eqb}
 use Rattle.std.proofs.lemmas.List.{take_all, take-append-drop, drop_more, get_or-take, get_or_append_left, get_or-append_right}
 use Rattle.std.proofs.lemmas.Str.Parse.{digits_value_short}
+use Rattle.base.proofs.Bools.{first_true, second_true, neither}
 use Rattle.identity.specs.NumberText.{is_number, value, cut, number_before, is_number_end, judged}
 use Rattle.identity.specs.IdentityText.{reading_identity, three_numbers, identity_of}
 use Rattle.identity.specs.Identity.{identity_number}
 use Rattle.identity.specs.declared.fault.Fault.TheVariants.{OutOfRange}
-use Rattle.identity.proofs.NumberText.{and_left, and_right, number_empty, number_zero, number_form, all_of_number, not_all, digit_in, absent}
+use Rattle.identity.proofs.NumberText.{number_empty, number_zero, number_form, all_of_number, not_all, digit_in, absent}
 use Rattle.identity.proofs.Texts.{cut_again, cut_only, own}
 
 -- ---- the number before a dash
@@ -93,11 +95,13 @@ no_form text at inside all dash several low =
     ]
 
 -- a byte that is neither a digit nor a dash
-strange : (text : List ℕ) (at : ℕ) (p : List ℕ × List ℕ) → at < length text → list_all is_ascii_digit (take at text) ≡ true → is_ascii_digit (get_or text at 0) ≡ false → get_or text at 0 ≢ 45 → cut 45 text ≡ Some p → is_number p.0 ≡ false
+strange : (text : List ℕ) (at : ℕ) (p : List ℕ × List ℕ) → at < length text → list_all is_ascii_digit (take at text) ≡ true →
+    is_ascii_digit (get_or text at 0) ≡ false → get_or text at 0 ≢ 45 → cut 45 text ≡ Some p → is_number p.0 ≡ false
 strange text at p inside all other different e =
     let n = length p.0 in
     let whole : text ≡ p.0 ++ 45 ∷ p.1 = cut_only 45 text p e in
-    let mark : get_or text n 0 ≡ 45 = ap (λ (l : List ℕ). get_or l n 0) whole ∙ get_or-append_right p.0 (45 ∷ p.1) n n 0 refl (omega arith) ∙ ap (λ (k : ℕ). get_or (45 ∷ p.1) k 0) (let z : n - n ≡ 0 = omega arith in z) in
+    let mark : get_or text n 0 ≡ 45 = ap (λ (l : List ℕ). get_or l n 0) whole ∙ get_or-append_right p.0 (45 ∷ p.1) n n 0 refl (omega arith) ∙
+    ap (λ (k : ℕ). get_or (45 ∷ p.1) k 0) (let z : n - n ≡ 0 = omega arith in z) in
     elim (cases_lt at n) [
       | inl lt ↦
           let same : get_or p.0 at 0 ≡ get_or text at 0 = sym (ap (λ (l : List ℕ). get_or l at 0) whole ∙ get_or_append_left p.0 (45 ∷ p.1) 0 at lt) in
@@ -117,7 +121,8 @@ not_before : (text : List ℕ) (found : Option (List ℕ × List ℕ)) → ((p :
 not_before text None never = refl
 not_before text (Some p) never = rw (never p refl) refl
 
-pub strange_byte : (text : List ℕ) (at : ℕ) → at < length text → list_all is_ascii_digit (take at text) ≡ true → is_ascii_digit (get_or text at 0) ≡ false → get_or text at 0 ≢ 45 → None ≡ number_before 45 text
+pub strange_byte : (text : List ℕ) (at : ℕ) → at < length text → list_all is_ascii_digit (take at text) ≡ true →
+    is_ascii_digit (get_or text at 0) ≡ false → get_or text at 0 ≢ 45 → None ≡ number_before 45 text
 unfolding number_before
 strange_byte text at inside all other different = sym (not_before text (cut 45 text) (λ p e. strange text at p inside all other different e))
 
@@ -131,8 +136,8 @@ pub number_ends : (text : List ℕ) (at v : ℕ) → at < length text → list_a
     → Some (v, take (length text - (at + 1)) (drop (at + 1) text)) ≡ number_before 45 text
 number_ends text at v inside all ends is =
     let rest = (at == 1) || nat_lt 48 (get_or text 0 0) in
-    let dash : (get_or text at 0 == 45) ≡ true = and_left (get_or text at 0 == 45) rest ends in
-    let form : rest ≡ true = and_right (get_or text at 0 == 45) rest ends in
+    let dash : (get_or text at 0 == 45) ≡ true = first_true (get_or text at 0 == 45) rest ends in
+    let form : rest ≡ true = second_true (get_or text at 0 == 45) rest ends in
     let whole : take (length text - (at + 1)) (drop (at + 1) text) ≡ drop (at + 1) text = take_all (length text - (at + 1)) (drop (at + 1) text) (grind (arith, common_steps)) in
     let mark : get_or text at 0 ≡ 45 = grind (arith, nat_tests, dash) in
     subst (λ (l : List ℕ). Some (v, l) ≡ number_before 45 text) (sym whole) (number_found text at v inside all mark (cases (at == 1) refl form) is)
@@ -142,7 +147,8 @@ number_ends text at v inside all ends is =
     cases false e h = inr (grind (arith, nat_tests, h))
 
 -- no number and a dash after it
-pub number_fails : (text : List ℕ) (at : ℕ) → at < length text → list_all is_ascii_digit (take at text) ≡ true → is_ascii_digit (get_or text at 0) ≡ false → is_number_end text at ≡ false → None ≡ number_before 45 text
+pub number_fails : (text : List ℕ) (at : ℕ) → at < length text → list_all is_ascii_digit (take at text) ≡ true →
+    is_ascii_digit (get_or text at 0) ≡ false → is_number_end text at ≡ false → None ≡ number_before 45 text
 number_fails text at inside all other fails =
     elim (cases_eq (get_or text at 0) 45) [
       | inr different ↦ strange_byte text at inside all other different
@@ -153,10 +159,6 @@ number_fails text at inside all other fails =
           let several : at ≢ 1 = (λ e. false≢true (sym h.0 ∙ eq-eqb at 1 e)) in
           no_form text at inside all dash several (grind (arith, nat_tests, h.1))
     ]
-  where
-    neither : (a b : Bool) → (a || b) ≡ false → (a ≡ false) × (b ≡ false)
-    neither true b e = absurd (false≢true (sym e))
-    neither false b e = (refl, e)
 
 -- one digit more is below 2 ^ 64
 pub digits_small : (text : List ℕ) (at v : ℕ) → list_all is_ascii_digit (take at text) ≡ true → at < length text → length text ≤ 19 → v ≡ value (take at text) → v < 10 ^ 18
@@ -178,20 +180,26 @@ in_ranges : (b : Bool) (n : ℕ) → result_ok (if b then Ok n else Err OutOfRan
 in_ranges true n = refl
 in_ranges false n = refl
 
-judged_numbers : (a b c : List ℕ) → result_ok (judged (λ (numbers : List ℕ × List ℕ × List ℕ). identity_of numbers.0 numbers.1 numbers.2) (if is_number a && is_number b && is_number c then Some (a, b, c) else None))
+judged_numbers : (a b c : List ℕ) →
+    result_ok (judged (λ (numbers : List ℕ × List ℕ × List ℕ). identity_of numbers.0 numbers.1 numbers.2)
+    (if is_number a && is_number b && is_number c then Some (a, b, c) else None))
     ≡ (if is_number a then (if is_number b then identity_ends (value a) (value b) c else None) else None)
 unfolding identity_of
 judged_numbers a b c = of (is_number a) (is_number b) (is_number c)
   where
     of : (na nb nc : Bool) → result_ok (judged (λ (numbers : List ℕ × List ℕ × List ℕ). identity_of numbers.0 numbers.1 numbers.2) (if na && nb && nc then Some (a, b, c) else None))
-        ≡ (if na then (if nb then (if nc then (if nat_le (value a) 1023 && nat_le (value b) 16383 && nat_le (value c) 16777215 then Some (identity_number (value a) (value b) (value c)) else None) else None) else None) else None)
+        ≡ (if na then (if nb then
+        (if nc then (if nat_le (value a) 1023 && nat_le (value b) 16383 && nat_le (value c) 16777215 then Some
+        (identity_number (value a) (value b) (value c)) else None) else None) else None) else None)
     of true true true = in_ranges (nat_le (value a) 1023 && nat_le (value b) 16383 && nat_le (value c) 16777215) (identity_number (value a) (value b) (value c))
     of true true false = refl
     of true false nc = refl
     of false true nc = refl
     of false false nc = refl
 
-after_first : (a rest : List ℕ) → result_ok (judged (λ (numbers : List ℕ × List ℕ × List ℕ). identity_of numbers.0 numbers.1 numbers.2) (option_and_then (λ q. if is_number a && is_number q.0 && is_number q.1 then Some (a, q.0, q.1) else None) (cut 45 rest)))
+after_first : (a rest : List ℕ) →
+    result_ok (judged (λ (numbers : List ℕ × List ℕ × List ℕ). identity_of numbers.0 numbers.1 numbers.2)
+    (option_and_then (λ q. if is_number a && is_number q.0 && is_number q.1 then Some (a, q.0, q.1) else None) (cut 45 rest)))
     ≡ (if is_number a then identity_goes_on (value a, rest) else None)
 unfolding number_before
 after_first a rest = of (cut 45 rest)
@@ -206,7 +214,9 @@ after_first a rest = of (cut 45 rest)
     none true = refl
     none false = refl
 
-    of : (found : Option (List ℕ × List ℕ)) → result_ok (judged (λ (numbers : List ℕ × List ℕ × List ℕ). identity_of numbers.0 numbers.1 numbers.2) (option_and_then (λ q. if is_number a && is_number q.0 && is_number q.1 then Some (a, q.0, q.1) else None) found))
+    of : (found : Option (List ℕ × List ℕ)) →
+        result_ok (judged (λ (numbers : List ℕ × List ℕ × List ℕ). identity_of numbers.0 numbers.1 numbers.2)
+        (option_and_then (λ q. if is_number a && is_number q.0 && is_number q.1 then Some (a, q.0, q.1) else None) found))
         ≡ (if is_number a then option_and_then (λ (r : ℕ × List ℕ). identity_ends (value a) r.0 r.1) (option_and_then before found) else None)
     of None = none (is_number a)
     of (Some q) = judged_numbers a q.0 q.1 ∙ pick (is_number a) (is_number q.0) None q
@@ -220,7 +230,10 @@ reading_short text = of (cut 45 text)
     pick true p = refl
     pick false p = refl
 
-    of : (found : Option (List ℕ × List ℕ)) → result_ok (judged (λ (numbers : List ℕ × List ℕ × List ℕ). identity_of numbers.0 numbers.1 numbers.2) (option_and_then (λ (p : List ℕ × List ℕ). option_and_then (λ q. if is_number p.0 && is_number q.0 && is_number q.1 then Some (p.0, q.0, q.1) else None) (cut 45 p.1)) found))
+    of : (found : Option (List ℕ × List ℕ)) →
+        result_ok (judged (λ (numbers : List ℕ × List ℕ × List ℕ). identity_of numbers.0 numbers.1 numbers.2)
+        (option_and_then (λ (p : List ℕ × List ℕ).
+        option_and_then (λ q. if is_number p.0 && is_number q.0 && is_number q.1 then Some (p.0, q.0, q.1) else None) (cut 45 p.1)) found))
         ≡ option_and_then identity_goes_on (option_and_then before found)
     of None = refl
     of (Some p) = after_first p.0 p.1 ∙ pick (is_number p.0) p

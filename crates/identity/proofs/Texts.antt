@@ -1,5 +1,6 @@
 -- Texts of numbers, and parts of texts: what is written is what is read.
-use Rattle.std.proofs.Common.{◌≡◌, ℕ, ◌^◌, ◌<◌, ◌≤◌, Bool, true, false, ◌&&◌, List, [], ◌∷◌, ◌++◌, length, refl, sym, ap, ◌∙◌, arith, Option, Some, None, option_map, Result, Ok, Err, nat_le, inl, inr, rules}
+use Rattle.std.proofs.Common.{◌≡◌, ℕ, ◌^◌, ◌<◌, ◌≤◌, Bool, true, false, List, [], ◌∷◌, ◌++◌, length, refl, sym, ap, ◌∙◌, arith, Option, Some, None}
+use Rattle.std.proofs.Common.{option_map, Result, Ok, Err, nat_le, inl, inr, rules}
 use Rattle.std.specs.Prelude.{◌↔◌, ◌⊎◌, ◌==◌, if◌then◌else◌, decimal}
 use mathlib.Core.Bool.{false≢true}
 use Rattle.std.specs.Char.{is_ascii_digit}
@@ -10,8 +11,11 @@ use Rattle.std.proofs.lemmas.Bool.Decides.{nat_tests}
 use Rattle.std.proofs.lemmas.Bool.{cases_eq, eq-eqb, ne_eqb}
 use Rattle.std.proofs.lemmas.Fmt.{decimal-digits_value, digits_value-decimal, digits_decimal, decimal_digit, decimal_nonempty, first_decimal}
 use Rattle.std.proofs.lemmas.Str.Parse.{IsNumeralModel, IsDigitsTest, numerals_by_value}
+use Rattle.base.proofs.Bools.{both_true}
+use Rattle.base.proofs.Numbers.{le_by_test, test_by_le}
+use Rattle.base.proofs.Options.{some_is}
 use Rattle.identity.specs.NumberText.{is_number, value, reading_number, cut, judged}
-use Rattle.identity.proofs.NumberText.{and_left, and_right, all_of_number, number_zero, number_form}
+use Rattle.identity.proofs.NumberText.{all_of_number, number_zero, number_form}
 use Rattle.identity.specs.declared.fault.Fault.{Fault}
 use Rattle.identity.specs.declared.fault.Fault.TheVariants.{BadText, OutOfRange}
 
@@ -22,9 +26,6 @@ err_ok f v e = cc
 
 pub none_some : {V : Type 0} (v : V) → None ≡ Some v → ⊥
 none_some v e = cc
-
-pub some_same : {V : Type 0} (x y : V) → Some x ≡ Some y → x ≡ y
-some_same x y e = cc
 
 pub ok_same : {V : Type 0} (x y : V) (e : (let r : Result V Fault = Ok x in r) ≡ Ok y) → x ≡ y
 ok_same x y e = cc
@@ -66,22 +67,14 @@ chosen_err true v f e = cc
 chosen_err false v f e = cc
 
 -- no form was found, or its range refused
-pub judged_err : {A B : Type 0} (range : A → Result B Fault) (found : Option A) (f : Fault) → ((x : A) → range x ≡ Err f → f ≡ OutOfRange) → judged range found ≡ Err f → (f ≡ BadText) ⊎ (f ≡ OutOfRange)
+pub judged_err : {A B : Type 0} (range : A → Result B Fault) (found : Option A) (f : Fault) → ((x : A) → range x ≡ Err f → f ≡ OutOfRange) →
+    judged range found ≡ Err f → (f ≡ BadText) ⊎ (f ≡ OutOfRange)
 judged_err range None f far e = inl (sym (err_same BadText f e))
 judged_err range (Some x) f far e = inr (far x e)
 
 pub then_some : {A B : Type 0} (f : A → Option B) (found : Option A) (y : B) → option_and_then f found ≡ Some y → (x : A) × (found ≡ Some x) × (f x ≡ Some y)
 then_some f None y e = absurd (none_some y e)
 then_some f (Some x) y e = (x, refl, e)
-
-pub both : (a b : Bool) → (a && b) ≡ true → (a ≡ true) × (b ≡ true)
-both a b e = (and_left a b e, and_right a b e)
-
-pub le_test : (a b : ℕ) → a ≤ b → nat_le a b ≡ true
-le_test a b le = grind (arith, le)
-
-pub test_le : (a b : ℕ) → nat_le a b ≡ true → a ≤ b
-test_le a b e = grind (arith, nat_tests, e)
 
 -- ---- numbers
 
@@ -120,7 +113,7 @@ decimal_of_number text form small =
 pub reading_number_again : (most n : ℕ) → n ≤ most → most < 2 ^ 64 → reading_number most (decimal n) ≡ Ok n
 unfolding reading_number
 reading_number_again most n le small =
-    rw (number_of_decimal n (omega arith), value-decimal n (omega arith), le_test n most le) refl
+    rw (number_of_decimal n (omega arith), value-decimal n (omega arith), test_by_le n most le) refl
 
 pub reading_number_only : (most n : ℕ) (text : List ℕ) → most < 2 ^ 64 → reading_number most text ≡ Ok n → (n ≤ most) × (text ≡ decimal n)
 unfolding reading_number
@@ -128,7 +121,7 @@ reading_number_only most n text small e =
     let form = chosen_ok (is_number text) _ _ n e in
     let range = chosen_ok (nat_le (value text) most) _ _ n form.1 in
     let is : value text ≡ n = ok_same (value text) n range.1 in
-    let le : value text ≤ most = test_le (value text) most range.0 in
+    let le : value text ≤ most = le_by_test (value text) most range.0 in
     (omega (arith, is, le), sym (decimal_of_number text form.0 (omega (arith, le))) ∙ ap decimal is)
 
 pub reading_number_form : (most : ℕ) (text : List ℕ) → (reading_number most text ≡ Err BadText) ↔ (is_number text ≡ false)
@@ -154,7 +147,7 @@ pub cut_again : (p : ℕ → Bool) (mark : ℕ) (prefix back : List ℕ) → lis
 unfolding cut
 cut_again p mark [] back all is = rw (eq-eqb mark mark refl) refl
 cut_again p mark (b ∷ prefix) back all is =
-    let here = both (p b) (list_all p prefix) all in
+    let here = both_true (p b) (list_all p prefix) all in
     let other : (b == mark) ≡ false = ne_eqb b mark (λ e. false≢true (sym is ∙ ap p (sym e) ∙ here.0)) in
     let rest : cut mark (prefix ++ mark ∷ back) ≡ Some (prefix, back) = cut_again p mark prefix back here.1 is in
     rw (other, rest) refl
@@ -162,7 +155,7 @@ cut_again p mark (b ∷ prefix) back all is =
 following : (mark b : ℕ) (text : List ℕ) (found : Option (List ℕ × List ℕ)) (parts : List ℕ × List ℕ) → ((q : List ℕ × List ℕ) → found ≡ Some q → text ≡ q.0 ++ mark ∷ q.1)
     → option_map (λ q. (b ∷ q.0, q.1)) found ≡ Some parts → b ∷ text ≡ parts.0 ++ mark ∷ parts.1
 following mark b text None parts later e = absurd (none_some parts e)
-following mark b text (Some q) parts later e = ap (λ (t : List ℕ). b ∷ t) (later q refl) ∙ ap (λ (r : List ℕ × List ℕ). r.0 ++ mark ∷ r.1) (some_same (b ∷ q.0, q.1) parts e)
+following mark b text (Some q) parts later e = ap (λ (t : List ℕ). b ∷ t) (later q refl) ∙ ap (λ (r : List ℕ × List ℕ). r.0 ++ mark ∷ r.1) (some_is (b ∷ q.0, q.1) parts e)
 
 pub cut_only : (mark : ℕ) (text : List ℕ) (parts : List ℕ × List ℕ) → cut mark text ≡ Some parts → text ≡ parts.0 ++ mark ∷ parts.1
 unfolding cut
@@ -171,7 +164,7 @@ cut_only mark (b ∷ text) parts e =
     elim (cases_eq b mark) [
       | inl same ↦
           let first : (b == mark) ≡ true = eq-eqb b mark same in
-          let is : ([], text) ≡ parts = some_same _ _ (rw first at e) in
+          let is : ([], text) ≡ parts = some_is _ _ (rw first at e) in
           ap (λ (c : ℕ). c ∷ text) same ∙ ap (λ (q : List ℕ × List ℕ). q.0 ++ mark ∷ q.1) is
       | inr other ↦
           let first : (b == mark) ≡ false = ne_eqb b mark other in

@@ -4,8 +4,9 @@ use Rattle.std.specs.Int.{w64, byte_at, bytes_high_first, from_be_bytes}
 use Rattle.std.proofs.lemmas.Bool.{cases_lt}
 use Rattle.std.proofs.lemmas.List.{ext_get_or, get_or-drop, get_or-replicate, get_or_past, get_or-take, length-take, length-drop, length-replicate}
 use Rattle.std.proofs.lemmas.Nat.{be_bytes_8, pow-add, pow_pos, div-add-mod', div-mul-add, mod-mul-add, mul-add-lt, div_below}
-use Rattle.std.proofs.Math.Nat.{pow-suc, mul-div_cancel, mul-mod_left, add-mul, mul_assoc, mod-eq_of_lt}
+use Rattle.std.proofs.Math.Nat.{mul-div_cancel, mul-mod_left, add-mul, mul_assoc, mod-eq_of_lt}
 use Rattle.std.proofs.Math.Pow.{pow_mono}
+use Rattle.base.proofs.Numbers.{pow_256}
 use Rattle.identity.specs.Number.{num, number}
 use Rattle.identity.specs.Packed.{bits_of, Shows}
 use Rattle.identity.specs.Inside.NumberLaws.{length-num, number-num, num-append, num-mod, take-num, drop-num, zeros_if, zeros_then}
@@ -13,19 +14,9 @@ use Rattle.identity.specs.Inside.Kept.{IsClear}
 use Rattle.identity.proofs.Bytes.{length-bits_of}
 use Rattle.identity.proofs.Numbers.{number_part, within_bytes}
 
--- powers of 256 are powers of two
-bytes_pow : (k : ℕ) → 256 ^ k ≡ 2 ^ (8 * k)
-bytes_pow zero = refl
-bytes_pow (suc k) =
-    let place : 8 * suc k ≡ 8 + 8 * k = omega arith in
-    let split : 2 ^ (8 + 8 * k) ≡ 256 * 2 ^ (8 * k) = pow-add 2 8 (8 * k) in
-    let more = pow-suc 256 k in
-    let less = bytes_pow k in
-    rw place (omega (arith, split, more, less))
-
 byte_bits : (k n : ℕ) → num 8 (byte_at k n) ≡ num 8 (n / 2 ^ (8 * k))
 byte_bits zero n = let one : n / 2 ^ (8 * 0) ≡ n = omega arith in rw one (num-mod 8 n)
-byte_bits (suc k) n = rw (bytes_pow (suc k)) (num-mod 8 (n / 2 ^ (8 * suc k)))
+byte_bits (suc k) n = rw (pow_256 (suc k)) (num-mod 8 (n / 2 ^ (8 * suc k)))
 
 -- the bits of the bytes of a number are those of the number
 pub bits_of_high : (k n : ℕ) → bits_of (bytes_high_first k n) ≡ num (8 * k) n
@@ -142,7 +133,8 @@ number_read bytes at w s word k low high room fits is_k bits_are =
     let len : length part ≡ 64 = ap length bits_are ∙ length-num 64 word in
     let value : number part ≡ word = ap number bits_are ∙ number-num 64 word fits in
     let left : length part - (r + w) ≡ k = omega arith in
-    let whole : number (take w (drop r part)) ≡ word / 2 ^ k % 2 ^ w = number_part part r w (omega arith) ∙ ap (λ (n : ℕ). number part / 2 ^ n % 2 ^ w) left ∙ ap (λ (n : ℕ). n / 2 ^ k % 2 ^ w) value in
+    let whole : number (take w (drop r part)) ≡ word / 2 ^ k % 2 ^ w = number_part part r w (omega arith) ∙
+    ap (λ (n : ℕ). number part / 2 ^ n % 2 ^ w) left ∙ ap (λ (n : ℕ). n / 2 ^ k % 2 ^ w) value in
     turned (omega arith) ∙ sym (ap number (within_bytes bytes at w s 8 low high room) ∙ whole)
   where
     turned : k ≤ 64 → word / 2 ^ (k % 64) % 2 ^ w ≡ word / 2 ^ k % 2 ^ w
@@ -154,7 +146,8 @@ number_read bytes at w s word k low high room fits is_k bits_are =
 
 -- eight of the bytes, one by one
 abbrev pub eight_at : List ℕ → ℕ → List ℕ
-eight_at bytes s = get_or bytes s 0 ∷ get_or bytes (s + 1) 0 ∷ get_or bytes (s + 2) 0 ∷ get_or bytes (s + 3) 0 ∷ get_or bytes (s + 4) 0 ∷ get_or bytes (s + 5) 0 ∷ get_or bytes (s + 6) 0 ∷ get_or bytes (s + 7) 0 ∷ []
+eight_at bytes s = get_or bytes s 0 ∷ get_or bytes (s + 1) 0 ∷ get_or bytes (s + 2) 0 ∷ get_or bytes (s + 3) 0 ∷ get_or bytes (s + 4) 0 ∷ get_or bytes
+    (s + 5) 0 ∷ get_or bytes (s + 6) 0 ∷ get_or bytes (s + 7) 0 ∷ []
 
 module _ (bytes : List ℕ) (s : ℕ) (room : s + 8 ≤ length bytes) where
   abbrev part : List ℕ

@@ -1,6 +1,6 @@
 //! Strings of bits, packed in bytes.
 
-ghost use Rattle.std.specs.Prelude.{◌≡◌, ◌==◌, ◌<◌, ◌≤◌, ◌^◌, ◌++◌, ◌+◌, ◌*◌, ◌↔◌, Bool, List, [], length, take, IfOk, IfErr, OnOk, IsTrue, slice_get, Some};
+ghost use Rattle.std.specs.Prelude.{◌≡◌, ◌==◌, ◌<◌, ◌≤◌, ◌^◌, ◌++◌, ◌+◌, ◌*◌, ◌↔◌, Bool, List, [], length, take, IfOk, IfErr, OnErr, OnOk, IsTrue, slice_get, Some};
 ghost use Rattle.std.specs.Ordering.{eq_by_cmp};
 ghost use Rattle.identity.specs.Number.{num};
 ghost use Rattle.identity.specs.Packed.{bits_of, IsPacked};
@@ -58,10 +58,11 @@ impl<A: Allocator> Bits<A> {
         bit_in(self.held(), at)
     }
 
-    /// A copy under the given allocator; `Fault::NoMemory` where that is out of memory.
+    /// A copy under the given allocator; `Fault::NoMemory` where that is out of memory, as can be for more than 64 bits.
     pub fn try_copy<B: Allocator>(&self, alloc: B) -> Result<Bits<B>, Fault>
         ensures ok { IfOk result (λ copy. copy ≡ self.now) }
         ensures err { IfErr result (λ e. e ≡ NoMemory) }
+        ensures memory { OnErr result (64 < length self.now) }
     {
         if self.len <= IN_PLACE {
             return Ok(Bits::short(alloc, self.short, self.len));
@@ -151,11 +152,13 @@ impl<A: Allocator> Bits<A> {
         }
     }
 
-    /// A copy of the first `len` bits of bytes, under the given allocator; `Fault::NoMemory` where that is out of memory.
+    /// A copy of the first `len` bits of bytes, under the given allocator; `Fault::NoMemory` where that is out of memory, as
+    /// can be for more than 64 bits.
     pub fn from_packed(alloc: A, bytes: &[u8], len: usize) -> Result<Bits<A>, Fault>
         requires { IsPacked bytes.now len }
         ensures ok { IfOk result (λ bits. bits ≡ take len (bits_of bytes.now)) }
         ensures err { IfErr result (λ e. e ≡ NoMemory) }
+        ensures memory { OnErr result (64 < len) }
     {
         if len <= IN_PLACE {
             return Ok(Bits::short(alloc, first_eight(bytes), len));
@@ -171,6 +174,7 @@ impl<A: Allocator> Bits<A> {
         requires fits { value < 2 ^ width }
         ensures ok { OnOk result (self.new ≡ self.old ++ num width value) }
         ensures err { IfErr result (λ e. (e ≡ NoMemory) × (self.new ≡ self.old)) }
+        ensures memory { OnErr result (64 < length self.old + width) }
     {
         if self.len <= IN_PLACE - width as usize {
             self.short = with_number(self.short, self.len, value, width);
@@ -188,6 +192,7 @@ impl<A: Allocator> Bits<A> {
         requires long { 64 < length self.old + width }
         ensures ok { OnOk result (self.new ≡ self.old ++ num width value) }
         ensures err { IfErr result (λ e. (e ≡ NoMemory) × (self.new ≡ self.old)) }
+        ensures memory { OnErr result (64 < length self.old + width) }
     {
         let Some(len) = self.len.checked_add(width as usize) else {
             return Err(Fault::NoMemory);

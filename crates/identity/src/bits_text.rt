@@ -1,7 +1,7 @@
 //! Strings of bits as text.
 
 ghost use Rattle.std.specs.Prelude.{◌≡◌, ◌<◌, ◌≤◌, ◌^◌, ◌*◌, ◌+◌, ◌-◌, ◌/◌, ◌%◌, ◌++◌, ◌∷◌, ◌⊎◌, true, false, replicate, OnOk, OnErr};
-ghost use Rattle.std.specs.Prelude.{IfOk, IfErr, IfSome, Ok, Err, IsTrue, IsOk, option_map, length, take, drop, vec_len, vec_capacity, ◌==◌};
+ghost use Rattle.std.specs.Prelude.{IfOk, IfErr, IfSome, Ok, Err, IsTrue, IsOkAnd, option_map, length, take, drop, vec_len, vec_capacity, ◌==◌};
 ghost use Rattle.std.specs.Prelude.{decimal, []};
 ghost use Rattle.std.specs.Char.{digit_value, is_ascii_hexdigit};
 ghost use Rattle.std.specs.Fmt.{digit_glyph};
@@ -100,6 +100,7 @@ fn bits_of<A: Allocator>(alloc: A, digits: &[u8], len: usize) -> Result<Bits<A>,
     requires filled { IsTrue (is_filled len digits.now) }
     ensures ok { IfOk result (λ bits. bits ≡ take len (digit_bits digits.now)) }
     ensures err { IfErr result (λ e. e ≡ NoMemory) }
+    ensures memory { OnErr result (64 < length (take len (digit_bits digits.now))) }
 {
     Ok(Bits::packed(bytes_of(alloc, digits)?, len))
 }
@@ -109,7 +110,7 @@ fn bits_of<A: Allocator>(alloc: A, digits: &[u8], len: usize) -> Result<Bits<A>,
 fn long_bits<A: Allocator>(alloc: A, count: &[u8], digits: &[u8]) -> Result<Bits<A>, Fault>
     requires many { 16 < length digits.now }
     ensures ok { IfOk result (λ bits. reading_digits count.now digits.now ≡ Ok bits) }
-    ensures err { IfErr result (λ e. (reading_digits count.now digits.now ≡ Err e) ⊎ ((e ≡ NoMemory) × IsOk (reading_digits count.now digits.now))) }
+    ensures err { IfErr result (λ e. (reading_digits count.now digits.now ≡ Err e) ⊎ ((e ≡ NoMemory) × IsOkAnd (reading_digits count.now digits.now) (λ bits. 64 < length bits))) }
 {
     let Some(len) = bits_len(count, digits) else {
         return Err(Fault::BadText);
@@ -181,12 +182,13 @@ fn short_bits<A: Allocator>(alloc: A, count: &[u8], digits: &[u8]) -> Result<Bit
 }
 
 /// The bits of a text `bits:HEX`, at most [`MOST_BITS`] of them. `Fault::BadText` where the text has not that form,
-/// else `Fault::OutOfRange` where the bits are more. `Fault::NoMemory` is reported only for a good text.
+/// else `Fault::OutOfRange` where the bits are more. `Fault::NoMemory` is reported only for a good text, of
+/// more than 64 bits.
 #[inline(always)]
 #[tactic(auto, unfolding(crate::specs::BitsText::reading_bits, crate::specs::BitsText::bits_form, crate::specs::Inside::ReadDigits::reading_digits))]
 pub fn parse_bits<A: Allocator>(alloc: A, text: &[u8]) -> Result<Bits<A>, Fault>
     ensures ok { IfOk result (λ bits. reading_bits text.now ≡ Ok bits) }
-    ensures err { IfErr result (λ e. (reading_bits text.now ≡ Err e) ⊎ ((e ≡ NoMemory) × IsOk (reading_bits text.now))) }
+    ensures err { IfErr result (λ e. (reading_bits text.now ≡ Err e) ⊎ ((e ≡ NoMemory) × IsOkAnd (reading_bits text.now) (λ bits. 64 < length bits))) }
 {
     let Some((count, digits)) = cut(text, b':') else {
         return Err(Fault::BadText);

@@ -1,6 +1,6 @@
 //! Writes numbers to a string of bits.
 
-ghost use Rattle.std.specs.Prelude.{◌≡◌, ◌<◌, ◌≤◌, ◌^◌, ◌++◌, Bool, List, [], IfErr, OnOk};
+ghost use Rattle.std.specs.Prelude.{◌≡◌, ◌<◌, ◌≤◌, ◌^◌, ◌++◌, ◌+◌, Bool, List, [], length, IfErr, OnErr, OnOk};
 ghost use Rattle.identity.specs.Number.{num};
 ghost use Rattle.identity.specs.declared.fault.Fault.TheVariants.{NoMemory};
 
@@ -30,13 +30,15 @@ impl<A: Allocator> BitWriter<A> {
         }
     }
 
-    /// Appends the `width` bits of `value`, at most 48, the greatest first. On `Fault::NoMemory` nothing has changed.
+    /// Appends the `width` bits of `value`, at most 48, the greatest first. On `Fault::NoMemory`, which can come only for more
+    /// than 64 bits in all, nothing has changed.
     #[inline(always)]
     pub fn put(&mut self, value: u64, width: u32) -> Result<(), Fault>
         requires width { width ≤ 48 }
         requires fits { value < 2 ^ width }
         ensures ok { OnOk result (self.new ≡ self.old ++ num width value) }
         ensures err { IfErr result (λ e. (e ≡ NoMemory) × (self.new ≡ self.old)) }
+        ensures memory { OnErr result (64 < length self.old + width) }
     {
         self.bits.append(value, width)
     }

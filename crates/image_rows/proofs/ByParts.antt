@@ -55,10 +55,6 @@ none_in part p (row ∷ rows) low below =
 skipped : (part : ℕ) (p : RowPlace) (xs ys : List Row) → UpTo part xs → part < part_of p → found (xs ++ ys) (Some p) ≡ found ys (Some p)
 skipped part p xs ys low below = find-append (is_after place_cmp place_of (Some p)) xs ys ∙ ap (λ o. option_or o (found ys (Some p))) (none_in part p xs low below)
 
-first_found : (rows : List Row) → found rows None ≡ first rows
-first_found [] = refl
-first_found (row ∷ rows) = refl
-
 -- the place is before all of them
 all_after : (p : RowPlace) (rows : List Row) → All (λ row. place_cmp p (place_of row) ≡ Less) rows → found rows (Some p) ≡ first rows
 all_after p [] all = refl
@@ -86,15 +82,19 @@ alone Greater = refl
 
 module _ (s : State) where
   in_rules : (after : Path) → found (rule_rows s) (Some (place.Rule after)) ≡ option_map rule_row (next_of path_cmp (λ e. e.0) (map.entries s.registered.rules) (Some after))
-  in_rules after = find_each rule_row (is_after place_cmp place_of (Some (place.Rule after))) (is_after path_cmp (λ e. e.0) (Some after)) (map.entries s.registered.rules) (λ k d below. ap is_lt (by_bits after _))
+  in_rules after = find_each rule_row (is_after place_cmp place_of (Some (place.Rule after))) (is_after path_cmp (λ e. e.0) (Some after))
+      (map.entries s.registered.rules) (λ k d below. ap is_lt (by_bits after _))
 
   in_mail : (n : ℕ) (key : Key) → found (mail_rows s) (Some (place.Mail n key)) ≡ option_map MailRow (next_of named_cmp named s.mail.items (Some (n, key)))
   in_mail n key = find_each MailRow (is_after place_cmp place_of (Some (place.Mail n key))) (is_after named_cmp named (Some (n, key))) s.mail.items (λ k d below. refl)
 
-  in_radios : (itsi : ℕ) → itsi < 2 ^ 48 → StateInRange s → found (radio_rows s) (Some (place.Radio itsi)) ≡ option_map (radio_row s.groups) (next_of path_cmp (λ e. e.0) (map.entries s.registered.radios) (Some (id_path itsi)))
+  in_radios : (itsi : ℕ) → itsi < 2 ^ 48 → StateInRange s → found (radio_rows s) (Some (place.Radio itsi)) ≡ option_map (radio_row s.groups)
+      (next_of path_cmp (λ e. e.0) (map.entries s.registered.radios) (Some (id_path itsi)))
   in_radios itsi fits ranges =
       find_each (radio_row s.groups) (is_after place_cmp place_of (Some (place.Radio itsi))) (is_after path_cmp (λ e. e.0) (Some (id_path itsi))) (map.entries s.registered.radios)
-      (All-weaker (λ e. RadioInRange s.registered.limits.stations e.0 e.1) (λ e. is_lt (place_cmp (place.Radio itsi) (place.Radio (number e.0))) ≡ is_lt (path_cmp (id_path itsi) e.0)) same (map.entries s.registered.radios) ranges.radios)
+      (All-weaker (λ e. RadioInRange s.registered.limits.stations e.0 e.1)
+      (λ e. is_lt (place_cmp (place.Radio itsi) (place.Radio (number e.0))) ≡ is_lt (path_cmp (id_path itsi) e.0)) same
+      (map.entries s.registered.radios) ranges.radios)
     where
       same : (e : Path × Radio) → RadioInRange s.registered.limits.stations e.0 e.1 → is_lt (place_cmp (place.Radio itsi) (place.Radio (number e.0))) ≡ is_lt (path_cmp (id_path itsi) e.0)
       same e range =
@@ -128,14 +128,16 @@ module _ (s : State) where
   first_radio : first (radio_rows s ++ (mail_rows s ++ served_rows 1 s.served)) ≡ after_radio s None
   first_radio = first_of (map.entries s.registered.radios)
     where
-      first_of : (es : List (Path × Radio)) → first (each (radio_row s.groups) es ++ (mail_rows s ++ served_rows 1 s.served)) ≡ option_or (option_map (radio_row s.groups) (next_of path_cmp (λ e. e.0) es None)) (after_item s None)
+      first_of : (es : List (Path × Radio)) → first (each (radio_row s.groups) es ++ (mail_rows s ++ served_rows 1 s.served)) ≡ option_or
+          (option_map (radio_row s.groups) (next_of path_cmp (λ e. e.0) es None)) (after_item s None)
       first_of [] = first_item
       first_of (e ∷ es) = refl
 
   first_rule : first (rule_rows s ++ (radio_rows s ++ (mail_rows s ++ served_rows 1 s.served))) ≡ after_rule s None
   first_rule = first_of (map.entries s.registered.rules)
     where
-      first_of : (es : List (Path × Rule)) → first (each rule_row es ++ (radio_rows s ++ (mail_rows s ++ served_rows 1 s.served))) ≡ option_or (option_map rule_row (next_of path_cmp (λ e. e.0) es None)) (after_radio s None)
+      first_of : (es : List (Path × Rule)) → first (each rule_row es ++ (radio_rows s ++ (mail_rows s ++ served_rows 1 s.served))) ≡ option_or
+          (option_map rule_row (next_of path_cmp (λ e. e.0) es None)) (after_radio s None)
       first_of [] = first_radio
       first_of (e ∷ es) = refl
 

@@ -7,13 +7,13 @@ use Rattle.std.specs.FinMap as map
 use Rattle.std.proofs.lemmas.List.{length-append}
 use Rattle.std.proofs.lemmas.List.Elements.{All-append}
 use Rattle.std.proofs.lemmas.List.Sums.{count_by-le-length}
+use Rattle.base.proofs.Lists.{nil_of_length}
 use Rattle.registration.specs.declared.limits.Limits.{Limits}
 use Rattle.centre_core.specs.State.{State, IsState}
 use Rattle.image_rows.specs.Rows.{Row, RowInRange, HeaderRow, MailRow, Header, row_count, rule_row, radio_row, served_rows, rows_of, header_of, how_many}
 use Rattle.image_rows.specs.Loading.{state_of_rows}
 use Rattle.image_rows.proofs.Exactly.{only_these_rows}
 use Rattle.image_rows.proofs.Groups.{length_each}
-use Rattle.image_rows.proofs.Order.{no_length}
 use Rattle.image_rows.proofs.Stations.{Entries, how_many-cons}
 
 served_counted : (k : ℕ) (os : Entries) → length (served_rows k os) ≡ how_many os
@@ -46,7 +46,8 @@ same_first : (h k : Header) (xs ys : List Row) → HeaderRow h ∷ xs ≡ Header
 same_first h k xs ys e = cc
 
 -- an image states how long it is, so nothing can follow it
-pub none_longer : (limits : Limits) (rows more : List Row) (epoch later : ℕ) (s t : State) → All RowInRange rows → All RowInRange more → state_of_rows limits rows ≡ Some (epoch, s) → state_of_rows limits (rows ++ more) ≡ Some (later, t) → more ≡ []
+pub none_longer : (limits : Limits) (rows more : List Row) (epoch later : ℕ) (s t : State) → All RowInRange rows → All RowInRange more →
+    state_of_rows limits rows ≡ Some (epoch, s) → state_of_rows limits (rows ++ more) ≡ Some (later, t) → more ≡ []
 none_longer limits rows more epoch later s t some others short long =
     let is : rows ≡ rows_of epoch s = (only_these_rows limits rows epoch s some short).0 in
     let with_more : rows ++ more ≡ rows_of later t = (only_these_rows limits (rows ++ more) later t (All-append RowInRange rows more some others) long).0 in
@@ -57,4 +58,4 @@ none_longer limits rows more epoch later s t some others short long =
     let d = rows_counted later t in
     let e = ap row_count header in
     let f = length-append rows more in
-    no_length more (omega (arith, a, b, c, d, e, f))
+    nil_of_length more (omega (arith, a, b, c, d, e, f))

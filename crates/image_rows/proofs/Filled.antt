@@ -2,7 +2,8 @@
 use Rattle.std.proofs.Common.{◌≡◌, ℕ, ◌+◌, ◌-◌, ◌≤◌, List, ◌++◌, length, take, drop, replicate, sym, ap, ◌∙◌, arith}
 use Rattle.std.proofs.lemmas.List.{take_at, drop_at, drop-drop, drop-replicate, length-append, length-take}
 
-module _ (sector bytes new : List ℕ) (len : ℕ) (long : length sector ≡ 512) (some : len ≤ 512) (room : length bytes ≤ 512 - len) (put : new ≡ take len sector ++ bytes ++ drop (len + length bytes) sector) where
+module _ (sector bytes new : List ℕ) (len : ℕ) (long : length sector ≡ 512) (some : len ≤ 512) (room : length bytes ≤ 512 - len)
+    (put : new ≡ take len sector ++ bytes ++ drop (len + length bytes) sector) where
   prefix : length (take len sector ++ bytes) ≡ len + length bytes
   prefix = length-append (take len sector) bytes ∙ omega (arith, length-take len sector, long, some)
 

@@ -1,5 +1,5 @@
 -- A radio's groups taken into a list, one after another.
-use Rattle.std.proofs.Common.{◌≡◌, ℕ, zero, suc, ◌+◌, ◌<◌, ◌≤◌, Bool, true, false, List, [], ◌∷◌, ◌++◌, length, get_or, take, drop, drop-cons, length-drop, Option, Some, None, refl, sym, ap, ◌∙◌, arith}
+use Rattle.std.proofs.Common.{◌≡◌, ℕ, zero, suc, ◌+◌, ◌<◌, ◌≤◌, Bool, true, false, List, [], ◌∷◌, ◌++◌, length, take, drop, length-drop, Option, Some, None, refl, sym, ap, ◌∙◌, arith}
 use Rattle.std.specs.Prelude.{◌&&◌, map as each, nat_le, option_map, slice_get, slice_set}
 use Rattle.std.specs.Ordering.{nat_cmp, is_lt}
 use Rattle.std.specs.List.{All}
@@ -14,9 +14,8 @@ use Rattle.group_attach.specs.declared.attachment.Attachment.{Attachment}
 use Rattle.image_rows.specs.Rows.{Group}
 use Rattle.image_rows.specs.RowText.{group_in}
 use Rattle.image_rows.specs.Loading.{attachment_in}
-use Rattle.identity.proofs.NumberText.{and_left as left, and_right as right}
 use Rattle.std.proofs.lemmas.Bool.Decides.{nat_tests}
-use Rattle.image_rows.proofs.Order.{both}
+use Rattle.base.proofs.Bools.{and_false, first_true as left, second_true, and_is_true}
 use Rattle.image_rows.proofs.Only.{each_push}
 
 more_of : {X : Type 0} (xs : List X) (n : ℕ) (x : X) → Some x ≡ slice_get (drop n xs) 0 → take (n + 1) xs ≡ take n xs ++ x ∷ []
@@ -32,7 +31,8 @@ nothing_at (x ∷ xs) e = absurd cc
 same_attachment : (a : Attachment) (itsi : ℕ) → a.itsi ≡ itsi → a ≡ attachment_in itsi (group_in a)
 same_attachment a itsi own = λ i. record { itsi = own i; gtsi = a.gtsi; class = a.class; lifetime = a.lifetime }
 
-pub put_one : (list : List Attachment) (gs : List Group) (itsi n : ℕ) (a : Attachment) → n < length list → take n list ≡ each (attachment_in itsi) (take n gs) → Some (group_in a) ≡ slice_get (drop n gs) 0 → a.itsi ≡ itsi
+pub put_one : (list : List Attachment) (gs : List Group) (itsi n : ℕ) (a : Attachment) → n < length list →
+    take n list ≡ each (attachment_in itsi) (take n gs) → Some (group_in a) ≡ slice_get (drop n gs) 0 → a.itsi ≡ itsi
     → take (n + 1) (slice_set list n a) ≡ each (attachment_in itsi) (take (n + 1) gs)
 put_one list gs itsi n a lt was first own =
     take_more_set list n a lt
@@ -51,13 +51,9 @@ rising last (g ∷ gs) = is_after nat_cmp (λ n. n) last g.0 && rising (Some g.0
 less_through : (a b c : ℕ) → is_lt (nat_cmp a b) ≡ true → is_lt (nat_cmp b c) ≡ true → is_lt (nat_cmp a c) ≡ true
 less_through a b c e f = grind (arith, nat_tests)
 
-and_none : (b : Bool) → (b && false) ≡ false
-and_none true = refl
-and_none false = refl
-
 below_more : (a b : ℕ) (gs : List Group) → is_lt (nat_cmp a b) ≡ true → below_all nat_cmp b gs ≡ true → below_all nat_cmp a gs ≡ true
 below_more a b [] e f = refl
-below_more a b (g ∷ gs) e f = both _ _ (less_through a b g.0 e (left _ _ f)) (below_more a b gs e (right (is_lt (nat_cmp b g.0)) _ f))
+below_more a b (g ∷ gs) e f = and_is_true _ _ (less_through a b g.0 e (left _ _ f)) (below_more a b gs e (second_true (is_lt (nat_cmp b g.0)) _ f))
 
 sorted_from : (a : ℕ) (gs : List Group) → rising (Some a) gs ≡ (below_all nat_cmp a gs && is_sorted nat_cmp gs)
 sorted_from a [] = refl
@@ -68,18 +64,12 @@ sorted_from a (g ∷ gs) = ap (λ (b : Bool). is_lt (nat_cmp a g.0) && b) (sorte
     by true e = through (below_all nat_cmp g.0 gs) refl
       where
         through : (c : Bool) → below_all nat_cmp g.0 gs ≡ c → (c && is_sorted nat_cmp gs) ≡ (below_all nat_cmp a gs && (c && is_sorted nat_cmp gs))
-        through false f = sym (and_none (below_all nat_cmp a gs))
+        through false f = sym (and_false (below_all nat_cmp a gs))
         through true f = ap (λ (d : Bool). d && is_sorted nat_cmp gs) (sym (below_more a g.0 gs e f))
 
 pub rises : (gs : List Group) → rising None gs ≡ is_sorted nat_cmp gs
 rises [] = refl
 rises (g ∷ gs) = sorted_from g.0 gs
-
-pub rising_on : (list : List Attachment) (i : ℕ) (a : Attachment) (last : Option ℕ) → i < length list → a ≡ get_or list i a → rising last (each group_in (drop i list)) ≡ (is_after nat_cmp (λ n. n) last a.gtsi && rising (Some a.gtsi) (each group_in (drop (i + 1) list)))
-rising_on list i a last lt is =
-    let one : suc i ≡ i + 1 = omega arith in
-    ap (λ (l : List Attachment). rising last (each group_in l)) (drop-cons list i a lt)
-    ∙ (λ j. is_after nat_cmp (λ n. n) last (sym is j).gtsi && rising (Some (sym is j).gtsi) (each group_in (drop (one j) list)))
 
 pub all_own : (itsi : ℕ) (gs : List Group) → All (λ a. a.itsi ≡ itsi) (each (attachment_in itsi) gs)
 all_own itsi [] = All-nil (λ a. a.itsi ≡ itsi)
@@ -102,7 +92,9 @@ is_all gs left n None none first is =
     let zeros = ap length nothing in
     record { all = sym (append-nil (take n gs)) ∙ ap (λ (l : List Group). take n gs ++ l) (sym nothing) ∙ take-append-drop n gs; few = omega (arith, short, zeros) }
 
-pub stated_order : (list : List Attachment) (itsi : ℕ) (gs : List Group) (n : ℕ) (r : Bool) → IsAll gs n → n ≤ most_of_radio → take n list ≡ each (attachment_in itsi) (take n gs) → r ≡ is_sorted nat_cmp (each group_in (take n list)) → r ≡ (nat_le (length gs) most_of_radio && is_sorted nat_cmp gs)
+pub stated_order : (list : List Attachment) (itsi : ℕ) (gs : List Group) (n : ℕ) (r : Bool) → IsAll gs n → n ≤ most_of_radio →
+    take n list ≡ each (attachment_in itsi) (take n gs) → r ≡ is_sorted nat_cmp (each group_in (take n list)) →
+    r ≡ (nat_le (length gs) most_of_radio && is_sorted nat_cmp gs)
 stated_order list itsi gs n r all few taken is =
     let short = all.few in
     let le : nat_le (length gs) most_of_radio ≡ true = le-leb _ _ (omega (arith, short, few)) in

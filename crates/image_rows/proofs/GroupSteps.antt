@@ -30,7 +30,8 @@ none_on : (n : ℕ) (rest : List ℕ) → group_at rest ≡ None → after_group
 unfolding next more
 none_on n rest is = ap (λ (r : Read Group). option_map (λ x. x.1) (r >>= next n)) is
 
-pub passed_one : (count i : ℕ) (bytes rest : List ℕ) (g : Group) (after : List ℕ) → i < count → Some (g, after) ≡ group_at rest → after_groups count bytes ≡ after_groups (count - i) rest → after_groups count bytes ≡ after_groups (count - (i + 1)) after
+pub passed_one : (count i : ℕ) (bytes rest : List ℕ) (g : Group) (after : List ℕ) → i < count → Some (g, after) ≡ group_at rest →
+    after_groups count bytes ≡ after_groups (count - i) rest → after_groups count bytes ≡ after_groups (count - (i + 1)) after
 passed_one count i bytes rest g after lt is was =
     let left : count - i ≡ suc (count - (i + 1)) = omega arith in
     was ∙ ap (λ (n : ℕ). after_groups n rest) left ∙ one_on (count - (i + 1)) rest g after (sym is)
@@ -87,7 +88,8 @@ first_is n bytes g after is some = by (groups_at n after) refl (rw is at some)
     by None e some = absurd (false≢true (rw e at some))
     by (Some gs) e some = record { list = rw (is, e) refl; there = rw e refl }
 
-pub first_taken : (count : ℕ) (bytes : List ℕ) (list : List Group) (g : Group) (after : List ℕ) → groups_from count bytes ≡ list → IsSome (groups_at count bytes) → (count ≡ 0 → ⊥) → Some (g, after) ≡ group_at bytes
+pub first_taken : (count : ℕ) (bytes : List ℕ) (list : List Group) (g : Group) (after : List ℕ) → groups_from count bytes ≡ list →
+    IsSome (groups_at count bytes) → (count ≡ 0 → ⊥) → Some (g, after) ≡ group_at bytes
     → (Some g ≡ slice_get list 0) × (groups_from (count - 1) after ≡ drop 1 list) × IsSome (groups_at (count - 1) after)
 first_taken zero bytes list g after is some there e = absurd (there refl)
 first_taken (suc n) bytes list g after is some there e =

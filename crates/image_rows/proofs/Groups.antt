@@ -3,31 +3,24 @@ use Rattle.std.proofs.Common.{◌≡◌, ℕ, suc, true, cond, List, [], ◌∷�
 use Rattle.std.specs.Prelude.{◌==◌, map as each}
 use Rattle.std.specs.List.{All}
 use Rattle.std.specs.Option.{option_or}
-use Rattle.std.specs.declared.cmp.Ordering.{Ordering}
-use Rattle.std.specs.declared.cmp.Ordering.TheVariants.{Less, Equal, Greater}
-use Rattle.std.specs.Ordering.{nat_cmp, is_eq, is_lt, ordering_then}
+use Rattle.std.specs.Ordering.{nat_cmp, is_lt, ordering_then}
 use Rattle.std.specs.Cmp.{unsigned_tied}
 use Rattle.std.specs.FinMap as map
 use Rattle.std.specs.FinMap.Entries.{below_all, is_sorted}
 use Rattle.std.proofs.lemmas.Bool.{eqb-true}
 use Rattle.std.proofs.lemmas.List.Elements.{All-head, All-tail, filter_passes}
+use Rattle.base.proofs.Bools.{true_if, is_equal, first_true, second_true, and_is_true}
+use Rattle.base.proofs.Numbers.{same_test}
 use Rattle.group_attach.specs.Attached.{Attached, Pair, Usage, pair_cmp, of_radio, attachment_of, all_attached}
 use Rattle.group_attach.proofs.Pairs.{alike}
-use Rattle.group_attach.proofs.Filtered.{entries_retained, from_T}
+use Rattle.group_attach.proofs.Filtered.{entries_retained}
 use Rattle.group_attach.proofs.Moves.{get_added}
 use Rattle.image_rows.specs.Rows.{group_of, groups_of}
 use Rattle.image_rows.specs.Loading.{with_attachments, attachment_in}
-use Rattle.identity.proofs.NumberText.{and_left as left, and_right as right}
-use Rattle.image_rows.proofs.Order.{both, same_number}
 
 -- with one radio pairs are as their groups
 pub within_one : (itsi a b : ℕ) → pair_cmp (itsi, a) (itsi, b) ≡ nat_cmp a b
-within_one itsi a b = ap (λ r. ordering_then r (nat_cmp a b)) (equal (nat_cmp itsi itsi) (unsigned_tied itsi itsi ∙ same_number itsi))
-  where
-    equal : (r : Ordering) → is_eq r ≡ true → r ≡ Equal
-    equal Less h = absurd cc
-    equal Equal h = refl
-    equal Greater h = absurd cc
+within_one itsi a b = ap (λ r. ordering_then r (nat_cmp a b)) (is_equal (nat_cmp itsi itsi) (unsigned_tied itsi itsi ∙ same_test itsi))
 
 -- all of these are of the radio
 abbrev pub AllOwn : ℕ → List (Pair × Usage) → Type 0
@@ -51,16 +44,18 @@ below_so : (itsi : ℕ) (e : Pair × Usage) (es : List (Pair × Usage)) → e.0.
 below_so itsi e [] is own h = refl
 below_so itsi e (f ∷ es) is own h =
     let next : f.0.0 ≡ itsi = eqb-true _ _ (All-head (of_this itsi) f es own) in
-    both _ _ (ap is_lt (sym (ap (λ n. pair_cmp (n, e.0.1) f.0) is ∙ ap (λ n. pair_cmp (itsi, e.0.1) (n, f.0.1)) next ∙ within_one itsi e.0.1 f.0.1)) ∙ left _ _ h) (below_so itsi e es is (All-tail (of_this itsi) f es own) (right _ _ h))
+    and_is_true _ _ (ap is_lt
+    (sym (ap (λ n. pair_cmp (n, e.0.1) f.0) is ∙ ap (λ n. pair_cmp (itsi, e.0.1) (n, f.0.1)) next ∙ within_one itsi e.0.1 f.0.1)) ∙
+    first_true _ _ h) (below_so itsi e es is (All-tail (of_this itsi) f es own) (second_true _ _ h))
 
 sorted_so : (itsi : ℕ) (es : List (Pair × Usage)) → AllOwn itsi es → is_sorted pair_cmp es ≡ true → is_sorted nat_cmp (each group_of es) ≡ true
 sorted_so itsi [] own h = refl
 sorted_so itsi (e ∷ es) own h =
     let rest = All-tail (of_this itsi) e es own in
-    both _ _ (below_so itsi e es (eqb-true _ _ (All-head (of_this itsi) e es own)) rest (left _ _ h)) (sorted_so itsi es rest (right (below_all pair_cmp e.0 es) _ h))
+    and_is_true _ _ (below_so itsi e es (eqb-true _ _ (All-head (of_this itsi) e es own)) rest (first_true _ _ h)) (sorted_so itsi es rest (second_true (below_all pair_cmp e.0 es) _ h))
 
 pub groups_sorted : (full : Attached) (itsi : ℕ) → map.is_sorted nat_cmp (groups_of full itsi) ≡ true
-groups_sorted full itsi = sorted_so itsi (map.entries (of_radio full itsi)) (all_own full itsi) (from_T _ (map.entries_sorted (of_radio full itsi)))
+groups_sorted full itsi = sorted_so itsi (map.entries (of_radio full itsi)) (all_own full itsi) (true_if _ (map.entries_sorted (of_radio full itsi)))
 
 pub length_each : {A B : Type 0} (f : A → B) (es : List A) → length (each f es) ≡ length es
 length_each f [] = refl

@@ -46,10 +46,12 @@ read_all (row ∷ rows) all =
     let here : row_in (sector_of row) ≡ Some row = written_is_read row (replicate (512 - length (row_bytes row)) 0) (All-head IsRow row rows all) in
     λ i. here i ∷ read_all rows (All-tail IsRow row rows all) i
 
-pub written_is_image : (epoch : ℕ) (s : State) (following : List (List ℕ)) → 0 < epoch → epoch ≤ last_epoch → IsState s → StateInRange s → slot_of s.registered.limits (sectors_of epoch s ++ following) ≡ Ok (epoch, s)
+pub written_is_image : (epoch : ℕ) (s : State) (following : List (List ℕ)) → 0 < epoch → epoch ≤ last_epoch → IsState s → StateInRange s →
+    slot_of s.registered.limits (sectors_of epoch s ++ following) ≡ Ok (epoch, s)
 written_is_image epoch s following some most is ranges =
     let rows = rows_of epoch s in
-    ap (slot_read s.registered.limits) (map-append row_in (each sector_of rows) following ∙ ap (λ (l : List (Option Row)). l ++ each row_in following) (read_all rows (are_rows epoch s some most is ranges)))
+    ap (slot_read s.registered.limits) (map-append row_in (each sector_of rows) following ∙
+    ap (λ (l : List (Option Row)). l ++ each row_in following) (read_all rows (are_rows epoch s some most is ranges)))
     ∙ slot_reads s.registered.limits rows (each row_in following) (epoch, s) (rows_in_range epoch s some most is ranges) (rows_make_state epoch s is ranges)
 
 -- sectors that are read as these rows, and whatever follows
@@ -78,7 +80,8 @@ parted (sector ∷ sectors) (row ∷ rows) following bytes e =
       ranges = All-cons RowInRange row rows here.0.range rest.ranges;
     }
 
-pub image_is_spelt : (limits : Limits) (sectors : List (List ℕ)) (epoch : ℕ) (s : State) → All AreBytes sectors → slot_of limits sectors ≡ Ok (epoch, s) → IsState s × StateInRange s × (s.registered.limits ≡ limits) × IsSpelt sectors epoch s
+pub image_is_spelt : (limits : Limits) (sectors : List (List ℕ)) (epoch : ℕ) (s : State) → All AreBytes sectors →
+    slot_of limits sectors ≡ Ok (epoch, s) → IsState s × StateInRange s × (s.registered.limits ≡ limits) × IsSpelt sectors epoch s
 image_is_spelt limits sectors epoch s bytes e =
     let begins = slot_begins limits (each row_in sectors) (epoch, s) e in
     let parts = parted sectors begins.rows begins.following bytes begins.are in

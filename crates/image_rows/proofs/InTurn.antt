@@ -46,7 +46,9 @@ found_is P p (y ∷ ys) x is all =
 -- ---- rules, radios and what waits
 
 -- what the row at the place is stated from, it is stated from
-pub stated_at : (epoch : ℕ) (s : State) (after : Option RowPlace) (p : RowPlace) (coming : Option (RowPlace × List ℕ)) → StateInRange s → after ≡ Some p → PlaceInRange (Some p) → coming ≡ option_map placed_row (row_by_tables epoch s (Some p)) → coming ≡ option_map placed_row (row_after epoch s after)
+pub stated_at : (epoch : ℕ) (s : State) (after : Option RowPlace) (p : RowPlace) (coming : Option (RowPlace × List ℕ)) → StateInRange s →
+    after ≡ Some p → PlaceInRange (Some p) → coming ≡ option_map placed_row (row_by_tables epoch s (Some p)) →
+    coming ≡ option_map placed_row (row_after epoch s after)
 stated_at epoch s after p coming ranges is fits here = here ∙ ap (option_map placed_row) (sym (row_is_by_tables epoch s (Some p) ranges fits) ∙ ap (row_after epoch s) (sym is))
 
 pub pdu_fits : (s : State) (m : Mailed) (after : Option (ℕ × Key)) (w : Item) → StateInRange s → m ≡ s.mail → Some w ≡ next_item m after → length w.pdu ≤ most_bits
@@ -57,19 +59,24 @@ pdu_fits s m after w ranges is found =
 
 pub few_groups : (s : State) (m : Attached) (itsi : ℕ) (l : List Attachment) → IsState s → m ≡ s.groups → l ≡ attachments_of m itsi → length l ≤ most_of_radio
 few_groups s m itsi l state is list =
-    let a : length l ≡ length (map.entries (of_radio s.groups itsi)) = ap length list ∙ length_each attachment_of (map.entries (of_radio m itsi)) ∙ ap (λ (n : Attached). length (map.entries (of_radio n itsi))) is in
+    let a : length l ≡ length (map.entries (of_radio s.groups itsi)) = ap length list ∙ length_each attachment_of (map.entries (of_radio m itsi)) ∙
+    ap (λ (n : Attached). length (map.entries (of_radio n itsi))) is in
     let b = map.len-entries (of_radio s.groups itsi) in
     let c = state.attachments.0 itsi in
     omega (arith, a, b, c)
 
-pub radio_found : (s : State) (r : Registered) (m : Attached) (after : Option ℕ) (itsi : ℕ) (radio : Radio) (l : List Attachment) (coming : RowPlace × List ℕ) → itsi < 2 ^ 48 → r ≡ s.registered → m ≡ s.groups → Some (id_path itsi, radio) ≡ next_entry r.radios (option_map id_path after) → l ≡ attachments_of m itsi
+pub radio_found : (s : State) (r : Registered) (m : Attached) (after : Option ℕ) (itsi : ℕ) (radio : Radio) (l : List Attachment)
+    (coming : RowPlace × List ℕ) → itsi < 2 ^ 48 → r ≡ s.registered → m ≡ s.groups →
+    Some (id_path itsi, radio) ≡ next_entry r.radios (option_map id_path after) → l ≡ attachments_of m itsi
     → coming ≡ placed_row (RadioRow itsi radio (each group_in l)) → Some coming ≡ option_map placed_row (after_radio s after)
 radio_found s r m after itsi radio l coming below same_r same_m found list is =
     let own : number (id_path itsi) ≡ itsi = number-id_path itsi below in
     let groups : each group_in l ≡ groups_of s.groups itsi = ap (each group_in) list ∙ same_groups m itsi ∙ ap (λ (n : Attached). groups_of n itsi) same_m in
-    let row : coming ≡ placed_row (radio_row s.groups (id_path itsi, radio)) = is ∙ (λ i. placed_row (RadioRow itsi radio (groups i))) ∙ (λ i. placed_row (RadioRow (sym own i) radio (groups_of s.groups (sym own i)))) in
+    let row : coming ≡ placed_row (radio_row s.groups (id_path itsi, radio)) = is ∙ (λ i. placed_row (RadioRow itsi radio (groups i))) ∙
+    (λ i. placed_row (RadioRow (sym own i) radio (groups_of s.groups (sym own i)))) in
     ap Some row
-    ∙ ap (λ (e : Option (Path × Radio)). option_map placed_row (option_or (option_map (radio_row s.groups) e) (after_item s None))) (found ∙ ap (λ (n : Registered). next_entry n.radios (option_map id_path after)) same_r)
+    ∙ ap (λ (e : Option (Path × Radio)). option_map placed_row (option_or (option_map (radio_row s.groups) e) (after_item s None)))
+    (found ∙ ap (λ (n : Registered). next_entry n.radios (option_map id_path after)) same_r)
 
 -- ---- all rows
 
@@ -88,7 +95,8 @@ pub record Going (epoch : ℕ) (s : State) (list : List (List ℕ)) (coming : Op
   pub so_far : list ++ each sector_of (one_by_one (row_after epoch s) place_of left after) ≡ sectors_of epoch s
 
 module _ (epoch : ℕ) (s : State) where
-  pub begun : IsState s → StateInRange s → (list : List (List ℕ)) (coming : Option (RowPlace × List ℕ)) → list ≡ [] → coming ≡ option_map placed_row (row_after epoch s None) → Going epoch s list coming
+  pub begun : IsState s → StateInRange s → (list : List (List ℕ)) (coming : Option (RowPlace × List ℕ)) → list ≡ [] →
+      coming ≡ option_map placed_row (row_after epoch s None) → Going epoch s list coming
   begun state ranges list coming empty is =
       let from_none : Going epoch s [] coming = record {
         after = None;
@@ -108,8 +116,10 @@ module _ (epoch : ℕ) (s : State) where
       let d = ap length so_far in
       omega (arith, a, b, c, d)
 
-  step : (list : List (List ℕ)) (after : Option RowPlace) (left : ℕ) (found : Option Row) (place : RowPlace) (row : List ℕ) → found ≡ row_after epoch s after → option_map placed_row found ≡ Some (place, row) → length list + left ≡ length (rows_of epoch s) + 1
-      → list ++ each sector_of (one_by_one (row_after epoch s) place_of left after) ≡ sectors_of epoch s → (coming : Option (RowPlace × List ℕ)) → coming ≡ option_map placed_row (row_after epoch s (Some place)) → Going epoch s (list ++ row ∷ []) coming
+  step : (list : List (List ℕ)) (after : Option RowPlace) (left : ℕ) (found : Option Row) (place : RowPlace) (row : List ℕ) →
+      found ≡ row_after epoch s after → option_map placed_row found ≡ Some (place, row) → length list + left ≡ length (rows_of epoch s) + 1
+      → list ++ each sector_of (one_by_one (row_after epoch s) place_of left after) ≡ sectors_of epoch s → (coming : Option (RowPlace × List ℕ)) →
+      coming ≡ option_map placed_row (row_after epoch s (Some place)) → Going epoch s (list ++ row ∷ []) coming
   step list after zero found place row here is counted so_far coming next = let a = so_many list [] so_far in absurd (omega (arith, a, counted))
   step list after (suc left) None place row here is counted so_far coming next = not_none _ is
   step list after (suc left) (Some r) place row here is counted so_far coming next =
@@ -128,7 +138,9 @@ module _ (epoch : ℕ) (s : State) where
             ∙ so_far;
       }
 
-  pub one_more : (list new : List (List ℕ)) (coming : Option (RowPlace × List ℕ)) (p : RowPlace × List ℕ) → Going epoch s list coming → coming ≡ Some p → new ≡ list ++ p.1 ∷ [] → (next : Option (RowPlace × List ℕ)) → next ≡ option_map placed_row (row_after epoch s (Some p.0)) → Going epoch s new next
+  pub one_more : (list new : List (List ℕ)) (coming : Option (RowPlace × List ℕ)) (p : RowPlace × List ℕ) → Going epoch s list coming →
+      coming ≡ Some p → new ≡ list ++ p.1 ∷ [] → (next : Option (RowPlace × List ℕ)) → next ≡ option_map placed_row (row_after epoch s (Some p.0)) →
+      Going epoch s new next
   one_more list new coming p going is longer next next_is =
       subst (λ (l : List (List ℕ)). Going epoch s l next) (sym longer)
       (step list going.after going.left (row_after epoch s going.after) p.0 p.1 refl (sym going.is ∙ is) going.counted going.so_far next next_is)

@@ -11,6 +11,8 @@ use Rattle.std.proofs.lemmas.Bool.{ltb-true, ltb-false, lt-ltb, le-ltb}
 use Rattle.std.proofs.lemmas.List.{length-append}
 use Rattle.std.proofs.lemmas.List.Elements.{All-head, All-tail, All-nil, All-cons}
 use Rattle.std.proofs.lemmas.List.Sums.{sum_by_push}
+use Rattle.base.proofs.Bools.{with_true, is_less, first_true, second_true, and_is_true}
+use Rattle.base.proofs.Numbers.{same_test}
 use Rattle.mailbox.specs.declared.fault.MailFault.TheVariants.{ReferenceBusy}
 use Rattle.mailbox.specs.Values.{Item, Mailed}
 use Rattle.mailbox.specs.Sound.{is_as_named}
@@ -19,22 +21,19 @@ use Rattle.mailbox.specs.Order.{ComesLast, named, named_cmp}
 use Rattle.mailbox.specs.Refusals.{most_for_one, crowd_refusal, full_refusal, restore_refusal}
 use Rattle.mailbox.specs.Item.{is_to}
 use Rattle.centre_core.specs.State.{State}
-use Rattle.prefix_tree.proofs.Order.{less_of}
-use Rattle.identity.proofs.NumberText.{and_left as left, and_right as right}
 use Rattle.image_rows.specs.Rows.{Header}
 use Rattle.image_rows.specs.Loading.{radios_done, is_numbered, mail_may, before_place}
 use Rattle.image_rows.specs.Held.{IsHeld}
-use Rattle.image_rows.proofs.Order.{both, same_number}
 
 -- ---- all come before
 
 pub all_less : (f : Item → Ordering) (ws : List Item) → list_all (λ o. is_lt (f o)) ws ≡ true → All (λ o. f o ≡ Less) ws
 all_less f [] h = All-nil (λ o. f o ≡ Less)
-all_less f (w ∷ ws) h = All-cons (λ o. f o ≡ Less) w ws (less_of _ (left _ _ h)) (all_less f ws (right (is_lt (f w)) _ h))
+all_less f (w ∷ ws) h = All-cons (λ o. f o ≡ Less) w ws (is_less _ (first_true _ _ h)) (all_less f ws (second_true (is_lt (f w)) _ h))
 
 less_all : (f : Item → Ordering) (ws : List Item) → All (λ o. f o ≡ Less) ws → list_all (λ o. is_lt (f o)) ws ≡ true
 less_all f [] all = refl
-less_all f (w ∷ ws) all = both _ _ (ap is_lt (All-head (λ o. f o ≡ Less) w ws all)) (less_all f ws (All-tail (λ o. f o ≡ Less) w ws all))
+less_all f (w ∷ ws) all = and_is_true _ _ (ap is_lt (All-head (λ o. f o ≡ Less) w ws all)) (less_all f ws (All-tail (λ o. f o ≡ Less) w ws all))
 
 pub last_stated : (f : Item → Ordering) (ws : List Item) (r : Bool) → (IsTrue r → All (λ o. f o ≡ Less) ws) → (All (λ o. f o ≡ Less) ws → IsTrue r) → r ≡ list_all (λ o. is_lt (f o)) ws
 last_stated f ws true to from = sym (less_all f ws (to refl))
@@ -67,7 +66,7 @@ pub place_free : (m : Mailed) (w : Item) → length m.items < m.room → is_none
 place_free m w room =
     let d = w.key.destination in
     let sum : count_by (is_to d) (m.items ++ w ∷ []) ≡ count_by (is_to d) m.items + weight d w = sum_by_push (weight d) m.items w in
-    let one : weight d w ≡ 1 = ap (λ b. cond b 1 0) (same_number d) in
+    let one : weight d w ≡ 1 = ap (λ b. cond b 1 0) (same_test d) in
     let longer = length-append m.items (w ∷ []) in
     elim (holds m w.key) as (λ b. is_none (option_or (cond b (Some ReferenceBusy) None) (full_refusal (with_item m w) d)) ≡ (not b && nat_lt (count_by (is_to d) m.items) most_for_one)) [
       | true ↦ refl
@@ -76,14 +75,11 @@ place_free m w room =
 
 -- ---- the whole
 
-and_true : (b : Bool) → b ≡ (b && true)
-and_true true = refl
-and_true false = refl
-
-pub may_by_place : (h : Header) (s : State) (w : Item) (free : Bool) → before_place h s w ≡ true → is_as_named w ≡ true → free ≡ (not (holds s.mail w.key) && nat_lt (count_by (is_to w.key.destination) s.mail.items) most_for_one) → free ≡ mail_may h s w
+pub may_by_place : (h : Header) (s : State) (w : Item) (free : Bool) → before_place h s w ≡ true → is_as_named w ≡ true →
+    free ≡ (not (holds s.mail w.key) && nat_lt (count_by (is_to w.key.destination) s.mail.items) most_for_one) → free ≡ mail_may h s w
 may_by_place h s w free before head is =
     let few = nat_lt (count_by (is_to w.key.destination) s.mail.items) most_for_one in
-    is ∙ and_true (not (holds s.mail w.key) && few) ∙ (λ i. ((sym before i && not (holds s.mail w.key)) && few) && sym head i)
+    is ∙ with_true (not (holds s.mail w.key) && few) ∙ (λ i. ((sym before i && not (holds s.mail w.key)) && few) && sym head i)
 
 pub may_not : (h : Header) (s : State) (w : Item) → before_place h s w ≡ false → false ≡ mail_may h s w
 may_not h s w before =
@@ -92,11 +88,11 @@ may_not h s w before =
 
 pub few_yet : (h : Header) (s : State) (w : Item) → IsHeld h s → before_place h s w ≡ true → length s.mail.items < s.mail.room
 few_yet h s w held before =
-    let few : length s.mail.items < h.mail = ltb-true _ _ (right (radios_done h s) _ (left _ _ (left _ _ before))) in
+    let few : length s.mail.items < h.mail = ltb-true _ _ (second_true (radios_done h s) _ (first_true _ _ (first_true _ _ before))) in
     let room = held.mail in
     omega (arith, few, room)
 
 pub comes_last_of : (h : Header) (s : State) (w : Item) → mail_may h s w ≡ true → ComesLast s.mail w.number w.key
 comes_last_of h s w may =
-    let before : before_place h s w ≡ true = left _ _ (left _ _ (left _ _ may)) in
-    all_less (λ o. named_cmp (named o) (named w)) s.mail.items (right (radios_done h s && nat_lt (length s.mail.items) h.mail && is_numbered s.count w.number) _ before)
+    let before : before_place h s w ≡ true = first_true _ _ (first_true _ _ (first_true _ _ may)) in
+    all_less (λ o. named_cmp (named o) (named w)) s.mail.items (second_true (radios_done h s && nat_lt (length s.mail.items) h.mail && is_numbered s.count w.number) _ before)

@@ -15,6 +15,7 @@ use Rattle.std.specs.FinMap.Entries as entries
 use Rattle.identity.specs.Path.{Path, path_cmp, begins, id_path}
 use Rattle.std.proofs.lemmas.Bool.{ltb-true, ltb-false}
 use Rattle.std.proofs.lemmas.Bool.Decides.{nat_tests}
+use Rattle.base.proofs.Bools.{and_false, with_true}
 use Rattle.identity.specs.Inside.PathLaws.{paths_total, tied, tie_exact, begins_then, length-id_path, number-id_path}
 use Rattle.prefix_tree.specs.Table.{PathMap, longest, NamesLongest}
 use Rattle.prefix_tree.specs.Next.{next_entry}
@@ -22,10 +23,6 @@ use Rattle.prefix_tree.specs.Following.{next_of}
 use Rattle.prefix_tree.proofs.Longest.{names_longest}
 use Rattle.prefix_tree.proofs.Order.{by_number}
 use Rattle.image_rows.specs.Loading.{is_next}
-
-and_false : (b : Bool) → (b && false) ≡ false
-and_false true = refl
-and_false false = refl
 
 module _ {K X : Type 0} {R : K → K → Ordering} (o : IsTotalOrder R) where
   abbrev first_past : K → List (K × X) → Option (K × X)
@@ -104,9 +101,11 @@ module _ {V : Type 0} where
         ] refl))
       ] refl
 
-  pub rule_there : (m : PathMap V) (p : Path) (a : ℕ) (e : Path × V) → next_entry m (Some p) ≡ None → id_path a ≡ p ++ replicate (48 - length p) false → Some e ≡ longest m (id_path a) → eq_by_cmp path_cmp e.0 p ≡ is_some (map.get m p)
+  pub rule_there : (m : PathMap V) (p : Path) (a : ℕ) (e : Path × V) → next_entry m (Some p) ≡ None →
+      id_path a ≡ p ++ replicate (48 - length p) false → Some e ≡ longest m (id_path a) → eq_by_cmp path_cmp e.0 p ≡ is_some (map.get m p)
   rule_there m p a e none bits is =
-      there_longest m p (id_path a) e none (subst (λ q. begins p q ≡ true) (sym bits) (begins_prefix p (replicate (48 - length p) false))) (subst (λ r. NamesLongest m (id_path a) r) (sym is) (names_longest m (id_path a)))
+      there_longest m p (id_path a) e none (subst (λ q. begins p q ≡ true) (sym bits) (begins_prefix p (replicate (48 - length p) false)))
+      (subst (λ r. NamesLongest m (id_path a) r) (sym is) (names_longest m (id_path a)))
 
   pub rule_not_there : (m : PathMap V) (p : Path) (a : ℕ) → id_path a ≡ p ++ replicate (48 - length p) false → None ≡ longest m (id_path a) → false ≡ is_some (map.get m p)
   rule_not_there m p a bits is =
@@ -144,10 +143,6 @@ and_second : (a b : Bool) → T (a && b) → T b
 and_second true b p = p
 and_second false b p = absurd p
 
-and_true : (b : Bool) → b ≡ (b && true)
-and_true true = refl
-and_true false = refl
-
 less_if : (r : Ordering) → T (is_lt r) → r ≡ Less
 less_if Less p = refl
 less_if Equal p = absurd p
@@ -170,7 +165,7 @@ module _ {K X : Type 0} {R : K → K → Ordering} (o : IsTotalOrder R) where
   -- what comes after the last of entries in order comes after all of them
   after_last : (es : List (K × X)) (k l : K) → T (map.is_sorted R es) → last_key es ≡ Some l → is_lt (R l k) ≡ list_all (λ e. is_lt (R e.0 k)) es
   after_last [] k l order is = absurd cc
-  after_last (e ∷ []) k l order is = ap (λ p. is_lt (R (unwrap_or p l) k)) (sym is) ∙ and_true (is_lt (R e.0 k))
+  after_last (e ∷ []) k l order is = ap (λ p. is_lt (R (unwrap_or p l) k)) (sym is) ∙ with_true (is_lt (R e.0 k))
   after_last (e ∷ f ∷ es) k l order is =
       let rest : is_lt (R l k) ≡ list_all (λ e. is_lt (R e.0 k)) (f ∷ es) = after_last (f ∷ es) k l (and_second _ _ order) is in
       elim (is_lt (R l k)) as (λ b. is_lt (R l k) ≡ b → is_lt (R l k) ≡ (is_lt (R e.0 k) && list_all (λ e. is_lt (R e.0 k)) (f ∷ es))) [

@@ -8,6 +8,8 @@ use Rattle.std.proofs.lemmas.List.{append-nil, length-append}
 use Rattle.std.proofs.lemmas.List.Elements.{All-nil, All-cons, All-head, All-tail, All-weaker}
 use Rattle.std.proofs.lemmas.List.Folds.{list_any_none}
 use Rattle.std.proofs.lemmas.List.Sums.{list_all-from_AllPass, sum_by-append, sum_by-cons}
+use Rattle.base.proofs.Bools.{and_is_true}
+use Rattle.base.proofs.Numbers.{same_test}
 use Rattle.mailbox.specs.Values.{Item, Mailed}
 use Rattle.mailbox.specs.Sound.{IsMail, IsSpelt, IsNumbered}
 use Rattle.mailbox.specs.Order.{IsBefore, named, named_cmp}
@@ -17,7 +19,6 @@ use Rattle.mailbox.proofs.Lists.{pairs_head, pairs_tail}
 use Rattle.centre_core.specs.State.{State}
 use Rattle.image_rows.specs.Rows.{Header, MailRow}
 use Rattle.image_rows.specs.Loading.{◌>>=◌, Loading, row_taken, all_taken, radios_done, mail_may, taken_mail}
-use Rattle.image_rows.proofs.Order.{both, same_number}
 use Rattle.image_rows.proofs.Rules.{at}
 
 module _ {X : Type 0} where
@@ -41,7 +42,7 @@ room_left most w xs ys few =
     let weight = λ (x : Item). cond (is_to w.key.destination x) 1 0 in
     let parts = sum_by-append weight xs (w ∷ ys) in
     let last = sum_by-cons weight w ys in
-    let one : weight w ≡ 1 = ap (λ b. cond b 1 0) (same_number w.key.destination) in
+    let one : weight w ≡ 1 = ap (λ b. cond b 1 0) (same_test w.key.destination) in
     omega (arith, few, parts, last, one)
 
 -- the items that are left
@@ -53,12 +54,17 @@ mail_taken h s m (w ∷ ws) placed stated mail is =
     let old = s.mail.items in
     let fewer : length old < h.mail = let a = length-append old (w ∷ ws) in let b = ap length is in omega (arith, a, b, stated) in
     let number = all_at (IsNumbered s.count) old ws w (subst (All (IsNumbered s.count)) (sym is) mail.numbered) in
-    let before = list_all-from_AllPass (λ o. is_lt (named_cmp (named o) (named w))) old (All-weaker (λ o. IsBefore o w) (λ o. is_lt (named_cmp (named o) (named w)) ≡ true) (λ o less. ap is_lt less) old (all_before IsBefore old ws w (subst (AllPairs IsBefore) (sym is) mail.ordered))) in
+    let before = list_all-from_AllPass (λ o. is_lt (named_cmp (named o) (named w))) old
+    (All-weaker (λ o. IsBefore o w) (λ o. is_lt (named_cmp (named o) (named w)) ≡ true) (λ o less. ap is_lt less) old
+    (all_before IsBefore old ws w (subst (AllPairs IsBefore) (sym is) mail.ordered))) in
     let free = list_any_none (is_at w.key) old (all_before (λ a b. same_key b.key a.key ≡ false) old ws w (subst (AllPairs (λ a b. same_key b.key a.key ≡ false)) (sym is) mail.apart)) in
     let room = room_left most_for_one w old ws (subst (λ (l : List Item). count_by (is_to w.key.destination) l ≤ most_for_one) (sym is) (mail.fits_each w.key.destination)) in
     let spelt = all_at IsSpelt old ws w (subst (All IsSpelt) (sym is) mail.spelt) in
     let may : mail_may h s w ≡ true =
-    both _ _ (both _ _ (both _ _ (both _ _ (both _ _ (both _ _ placed (lt-ltb _ _ fewer)) (both _ _ (lt-ltb _ _ number.0) (le-leb _ _ number.1))) before) (ap not free)) (lt-ltb _ _ room)) spelt.head in
+    and_is_true _ _ (and_is_true _ _
+    (and_is_true _ _ (and_is_true _ _
+    (and_is_true _ _ (and_is_true _ _ placed (lt-ltb _ _ fewer)) (and_is_true _ _ (lt-ltb _ _ number.0) (le-leb _ _ number.1))) before)
+    (ap not free)) (lt-ltb _ _ room)) spelt.head in
     let n : State = taken_mail s w in
     let here : row_taken (at h s) (MailRow w) ≡ Some (at h n) = rw may refl in
     ap (λ (r : Option Loading). r >>= λ n. all_taken n (each MailRow ws)) here

@@ -4,16 +4,16 @@ use Rattle.std.specs.Prelude.{◌&&◌, nat_le}
 use Rattle.std.specs.List.{All}
 use Rattle.std.proofs.lemmas.Bool.{leb-true}
 use Rattle.std.proofs.lemmas.List.Elements.{All-nil, All-push, All-tail}
+use Rattle.base.proofs.Bools.{first_true, second_true}
+use Rattle.base.proofs.Options.{some_where, some_is}
 use Rattle.registration.specs.declared.limits.Limits.{Limits}
 use Rattle.centre_core.specs.State.{State, IsState, last_number}
 use Rattle.centre_core.specs.StateRanges.{StateInRange}
 use Rattle.image_rows.specs.Rows.{Row, RowInRange, HeaderRow, RuleRow, RadioRow, MailRow, ServedRow, Header}
 use Rattle.image_rows.specs.Loading.{◌>>=◌, Loading, row_taken, all_taken, begun, finished, header_may}
 use Rattle.image_rows.specs.Held.{IsLoaded, IsHeld}
-use Rattle.identity.proofs.NumberText.{and_left as left, and_right as right}
 use Rattle.image_rows.proofs.Rules.{at, all_taken-append}
-use Rattle.image_rows.proofs.Only.{chosen}
-use Rattle.image_rows.proofs.Exactly.{bind_some, some_is, with_header, header_sound, all_only, only_these_rows}
+use Rattle.image_rows.proofs.Exactly.{bind_some, with_header, header_sound, all_only, only_these_rows}
 
 pub begun_is_loaded : (limits : Limits) → IsLoaded (begun limits)
 begun_is_loaded limits = record { limits = limits; rows = []; in_range = All-nil RowInRange; taken = refl }
@@ -49,13 +49,13 @@ held_after limits (ServedRow station x ∷ rest) h s ranges e = absurd cc
 held_after limits (HeaderRow k ∷ rest) h s ranges e =
     let s0 : State = with_header limits k.count in
     let a = bind_some (row_taken (begun limits) (HeaderRow k)) (λ n. all_taken n rest) (at h s) e in
-    let c = chosen (header_may limits k) (at k s0) a.0 a.1 in
-    let four = left _ _ c.0 in
-    let three = left _ _ four in
-    let two = left _ _ three in
-    let rules : k.rules ≤ limits.rules = leb-true _ _ (right (nat_le k.count last_number) _ two) in
-    let radios : k.radios ≤ limits.radios = leb-true _ _ (right (nat_le k.count last_number && nat_le k.rules limits.rules) _ three) in
-    let mail : k.mail ≤ limits.mail = leb-true _ _ (right (nat_le k.count last_number && nat_le k.rules limits.rules && nat_le k.radios limits.radios) _ four) in
+    let c = some_where (header_may limits k) (at k s0) a.0 a.1 in
+    let four = first_true _ _ c.0 in
+    let three = first_true _ _ four in
+    let two = first_true _ _ three in
+    let rules : k.rules ≤ limits.rules = leb-true _ _ (second_true (nat_le k.count last_number) _ two) in
+    let radios : k.radios ≤ limits.radios = leb-true _ _ (second_true (nat_le k.count last_number && nat_le k.rules limits.rules) _ three) in
+    let mail : k.mail ≤ limits.mail = leb-true _ _ (second_true (nat_le k.count last_number && nat_le k.rules limits.rules && nat_le k.radios limits.radios) _ four) in
     let d = all_only k rest s0 (at h s) (header_sound k limits mail) (All-tail RowInRange (HeaderRow k) rest ranges) (ap (λ m. all_taken m rest) c.1 ∙ a.2) in
     let n : State = d.0 in
     let same = same_header k h s n d.1 in

@@ -3,6 +3,7 @@ use Rattle.std.proofs.Common.{◌≡◌, ℕ, zero, suc, ◌-◌, ◌*◌, ◌/�
 use Rattle.std.specs.Prelude.{◌&&◌, not}
 use Rattle.std.proofs.lemmas.Bool.{eqb-true, leb-true, le-leb, eq-eqb}
 use Rattle.std.proofs.lemmas.List.{drop-drop, drop-take, take-take}
+use Rattle.base.proofs.Bools.{not_true as not_false, same_truth, both_true, and_is_true}
 use Rattle.identity.specs.Number.{num, number}
 use Rattle.identity.specs.Inside.NumberLaws.{number-num, take-num, drop-num, number-num_mod}
 use Rattle.sds_tl.specs.declared.fault.SdsFault.{SdsFault}
@@ -15,7 +16,6 @@ use Rattle.sds_tl.proofs.Fitting.{passes, passed_on, transfer_fits, report_fits,
 use Rattle.mailbox.specs.declared.key.Kind.TheVariants.{Message, Report}
 use Rattle.mailbox.specs.Sound.{is_head_of}
 use Rattle.image_rows.specs.Inside.PduTest.{is_of_type}
-use Rattle.image_rows.proofs.RowParts.{both_true, all_true}
 use Rattle.image_rows.proofs.Settled.{faultless}
 
 -- ---- fields in octets
@@ -45,15 +45,6 @@ even n = by (n % 2) (omega arith)
     by (suc (suc r)) lt = absurd (omega arith)
 
 -- ---- the tests
-
-same_truth : (a b : Bool) → (a ≡ true → b ≡ true) → (b ≡ true → a ≡ true) → a ≡ b
-same_truth true b on back = sym (on refl)
-same_truth false true on back = back refl
-same_truth false false on back = refl
-
-not_false : (b : Bool) → not b ≡ true → b ≡ false
-not_false true e = absurd cc
-not_false false e = refl
 
 false_not : (b : Bool) → b ≡ false → not b ≡ true
 false_not true e = absurd cc
@@ -88,7 +79,9 @@ tests_say pdu kind octets reference e =
 tests_hold : (pdu : List Bool) (kind octets reference : ℕ) → IsOfType pdu kind octets reference → is_of_type pdu kind octets reference ≡ true
 unfolding is_of_type
 tests_hold pdu kind octets reference is =
-    all_true _ _ (all_true _ _ (all_true _ _ (all_true _ _ (all_true _ _ (le-leb _ _ is.room) (le-leb _ _ is.most)) (le-leb _ _ is.layer)) (eq-eqb _ _ is.is_kind)) (false_not _ is.control)) (eq-eqb _ _ is.is_reference)
+    and_is_true _ _ (and_is_true _ _
+    (and_is_true _ _ (and_is_true _ _ (and_is_true _ _ (le-leb _ _ is.room) (le-leb _ _ is.most)) (le-leb _ _ is.layer)) (eq-eqb _ _ is.is_kind))
+    (false_not _ is.control)) (eq-eqb _ _ is.is_reference)
 
 not_true : (b : Bool) → (b ≡ true → ⊥) → false ≡ b
 not_true true never = absurd (never refl)
@@ -101,12 +94,14 @@ pub too_long : (pdu : List Bool) (kind octets reference : ℕ) → 2047 < length
 too_long pdu kind octets reference long = not_true (is_of_type pdu kind octets reference) (λ e. omega (arith, long, (tests_say pdu kind octets reference e).most))
 
 -- without fault the head states the type
-message_by : (a b : Bool) (n : ℕ) (q : DeliveryReportRequest) (r : ℕ) (k : Bool) (s t u v : ℕ) → is_head_of Message n (Ok (cond a (heads.Transfer q r) (cond b (heads.Report k s t) (heads.Ack u v)))) ≡ true → (a ≡ true) × (r ≡ n)
+message_by : (a b : Bool) (n : ℕ) (q : DeliveryReportRequest) (r : ℕ) (k : Bool) (s t u v : ℕ) →
+    is_head_of Message n (Ok (cond a (heads.Transfer q r) (cond b (heads.Report k s t) (heads.Ack u v)))) ≡ true → (a ≡ true) × (r ≡ n)
 message_by true b n q r k s t u v e = (refl, eqb-true _ _ e)
 message_by false true n q r k s t u v e = absurd cc
 message_by false false n q r k s t u v e = absurd cc
 
-report_by : (a b : Bool) (n : ℕ) (q : DeliveryReportRequest) (r : ℕ) (k : Bool) (s t u v : ℕ) → is_head_of Report n (Ok (cond a (heads.Transfer q r) (cond b (heads.Report k s t) (heads.Ack u v)))) ≡ true → (b ≡ true) × (t ≡ n)
+report_by : (a b : Bool) (n : ℕ) (q : DeliveryReportRequest) (r : ℕ) (k : Bool) (s t u v : ℕ) →
+    is_head_of Report n (Ok (cond a (heads.Transfer q r) (cond b (heads.Report k s t) (heads.Ack u v)))) ≡ true → (b ≡ true) × (t ≡ n)
 report_by true b n q r k s t u v e = absurd cc
 report_by false true n q r k s t u v e = (refl, eqb-true _ _ e)
 report_by false false n q r k s t u v e = absurd cc
@@ -134,7 +129,15 @@ message_test pdu n = same_truth (is_of_type pdu 0 3 n) (is_head_of Message n (he
     on e =
         let is = tests_say pdu 0 3 n e in
         let room = is.room in
-        let none : fault pdu ≡ None = passed_on pdu (record { most = is.most; layer = is.layer; known = omega (arith, is.is_kind); header = omega (arith, room); left = rw is.is_kind (data_passes 24 pdu is.control room) }) in
+        let none : fault pdu ≡ None =
+        passed_on pdu (record {
+          most = is.most;
+          layer = is.layer;
+          known = omega (arith, is.is_kind);
+          header = omega (arith, room);
+          left =
+              rw is.is_kind (data_passes 24 pdu is.control room);
+        }) in
         rw none (message_head pdu n is.is_kind is.is_reference)
 
     back : is_head_of Message n (heading pdu) ≡ true → is_of_type pdu 0 3 n ≡ true
@@ -152,7 +155,15 @@ report_test pdu n = same_truth (is_of_type pdu 1 4 n) (is_head_of Report n (head
     on e =
         let is = tests_say pdu 1 4 n e in
         let room = is.room in
-        let none : fault pdu ≡ None = passed_on pdu (record { most = is.most; layer = is.layer; known = omega (arith, is.is_kind); header = omega (arith, room); left = rw is.is_kind (data_passes 32 pdu is.control room) }) in
+        let none : fault pdu ≡ None =
+        passed_on pdu (record {
+          most = is.most;
+          layer = is.layer;
+          known = omega (arith, is.is_kind);
+          header = omega (arith, room);
+          left =
+              rw is.is_kind (data_passes 32 pdu is.control room);
+        }) in
         rw none (report_head pdu n is.is_kind is.is_reference)
 
     back : is_head_of Report n (heading pdu) ≡ true → is_of_type pdu 1 4 n ≡ true

@@ -5,6 +5,7 @@ use Rattle.std.specs.Option.{is_some}
 use Rattle.std.specs.Ordering.{nat_cmp, eq_by_cmp}
 use Rattle.std.specs.FinMap as map
 use Rattle.std.proofs.lemmas.Bool.{ltb-true, leb-true, eqb-true}
+use Rattle.base.proofs.Bools.{first_true, second_true}
 use Rattle.identity.specs.Path.{path_cmp, id_path}
 use Rattle.identity.specs.Inside.PathLaws.{paths_total, paths_exact, tie_exact}
 use Rattle.prefix_tree.specs.Table.{PathMap}
@@ -16,9 +17,9 @@ use Rattle.group_attach.specs.Applied.{most_of_radio, restored, without_radio as
 use Rattle.group_attach.specs.Allowed.{AreKnown}
 use Rattle.group_attach.proofs.Pairs.{pairs_total, pairs_exact, alike}
 use Rattle.centre_core.specs.State.{State, LastAccepted}
-use Rattle.identity.proofs.NumberText.{and_left as left, and_right as right}
 use Rattle.image_rows.specs.Rows.{Row, RowInRange, Header, Group, RadioRow, ServedRow, how_many}
-use Rattle.image_rows.specs.Loading.{◌>>=◌, Loading, begin, row_taken, take_by, is_next, rules_done, mail_done, with_attachments, attachment_in, put, taken_radio, served_may, all_done, finished, finished_by, place_may}
+use Rattle.image_rows.specs.Loading.{◌>>=◌, Loading, begin, row_taken, take_by, is_next, rules_done, mail_done, with_attachments, attachment_in, put}
+use Rattle.image_rows.specs.Loading.{taken_radio, served_may, all_done, finished, finished_by, place_may}
 use Rattle.image_rows.specs.Held.{IsOutcome, IsHeld, IsLoaded, IsPlace, loading, with_groups}
 use Rattle.image_rows.proofs.Order.{get_next}
 use Rattle.image_rows.proofs.Rules.{at}
@@ -52,20 +53,14 @@ no_groups_yet r m itsi known none =
       | false ↦ λ other. refl
     ] refl))
 
-pub with_own : (s : State) (itsi : ℕ) (radio : Radio) (gs : List Group) (list : List Attachment) (reg : Registered) (m : Attached) → IsPlace s itsi → (nat_le (length gs) most_of_radio && map.is_sorted nat_cmp gs) ≡ true
-    → list ≡ each (attachment_in itsi) gs → reg ≡ with_radio s.registered itsi radio → m ≡ restored s.groups itsi list → IsOutcome (with_groups s itsi radio gs) s true (record s { registered = reg; groups = m })
+pub with_own : (s : State) (itsi : ℕ) (radio : Radio) (gs : List Group) (list : List Attachment) (reg : Registered) (m : Attached) → IsPlace s itsi →
+    (nat_le (length gs) most_of_radio && map.is_sorted nat_cmp gs) ≡ true
+    → list ≡ each (attachment_in itsi) gs → reg ≡ with_radio s.registered itsi radio → m ≡ restored s.groups itsi list →
+    IsOutcome (with_groups s itsi radio gs) s true (record s { registered = reg; groups = m })
 with_own s itsi radio gs list reg m place may own is groups =
-    let with_attachments_so : m ≡ with_attachments s.groups itsi gs = groups ∙ ap (restored s.groups itsi) own ∙ ap (λ (n : Attached). all_attached n (each (attachment_in itsi) gs)) (no_groups_yet s.registered s.groups itsi place.known place.new) in
+    let with_attachments_so : m ≡ with_attachments s.groups itsi gs = groups ∙ ap (restored s.groups itsi) own ∙
+    ap (λ (n : Attached). all_attached n (each (attachment_in itsi) gs)) (no_groups_yet s.registered s.groups itsi place.known place.new) in
     rw may (refl, λ i. record s { registered = is i; groups = with_attachments_so i })
-
-pub without_own : (s : State) (itsi : ℕ) (radio : Radio) (gs : List Group) → (nat_le (length gs) most_of_radio && map.is_sorted nat_cmp gs) ≡ false → IsOutcome (with_groups s itsi radio gs) s false s
-without_own s itsi radio gs may = rw may (refl, refl)
-
-pub some_with_groups : (s : State) (itsi : ℕ) (radio : Radio) (gs : List Group) → (nat_le (length gs) most_of_radio && map.is_sorted nat_cmp gs) ≡ true → IsSome (with_groups s itsi radio gs)
-some_with_groups s itsi radio gs may = rw may refl
-
-pub by_groups : (h : Header) (s : State) (itsi : ℕ) (radio : Radio) (gs : List Group) → place_may h s itsi radio ≡ true → with_groups s itsi radio gs ≡ put h s (RadioRow itsi radio gs)
-by_groups h s itsi radio gs may = sym (λ i. cond ((may i && nat_le (length gs) most_of_radio) && map.is_sorted nat_cmp gs) (Some (taken_radio s itsi radio gs)) None)
 
 pub no_place : (h : Header) (s : State) (itsi : ℕ) (radio : Radio) (gs : List Group) → place_may h s itsi radio ≡ false → put h s (RadioRow itsi radio gs) ≡ None
 no_place h s itsi radio gs may = λ i. cond ((may i && nat_le (length gs) most_of_radio) && map.is_sorted nat_cmp gs) (Some (taken_radio s itsi radio gs)) None
@@ -73,10 +68,10 @@ no_place h s itsi radio gs may = λ i. cond ((may i && nat_le (length gs) most_o
 pub is_place : (h : Header) (s : State) (itsi : ℕ) (radio : Radio) → IsHeld h s → place_may h s itsi radio ≡ true → IsPlace s itsi
 is_place h s itsi radio held may =
     let old = s.registered.radios in
-    let three = left _ _ (left _ _ may) in
-    let two = left _ _ three in
-    let next : is_next old (id_path itsi) ≡ true = right (rules_done h s && nat_lt (map.len old) h.radios) _ three in
-    let few = ltb-true _ _ (right (rules_done h s) _ two) in
+    let three = first_true _ _ (first_true _ _ may) in
+    let two = first_true _ _ three in
+    let next : is_next old (id_path itsi) ≡ true = second_true (rules_done h s && nat_lt (map.len old) h.radios) _ three in
+    let few = ltb-true _ _ (second_true (rules_done h s) _ two) in
     let room = held.radios in
     record { new = get_next paths_total old (id_path itsi) next; room = omega (arith, few, room); known = held.known }
 
@@ -113,7 +108,8 @@ stated_refused l n row r t is came so =
     ] came in
     (ap (λ o. o >>= row_taken l) (sym is) ∙ stated.0, stated.1)
 
-pub loaded_after : {E : Type 0} (r : Result Bool E) (h k : Option Header) (s n : State) (row : Row) → IsLoaded (loading h s) → RowInRange row → IfOk r (λ t. IsOutcome (row_taken (loading h s) row) (loading h s) t (loading k n)) → OnErr r ((k ≡ h) × (n ≡ s)) → IsLoaded (loading k n)
+pub loaded_after : {E : Type 0} (r : Result Bool E) (h k : Option Header) (s n : State) (row : Row) → IsLoaded (loading h s) → RowInRange row →
+    IfOk r (λ t. IsOutcome (row_taken (loading h s) row) (loading h s) t (loading k n)) → OnErr r ((k ≡ h) × (n ≡ s)) → IsLoaded (loading k n)
 loaded_after (Ok t) h k s n row loaded range came same = stays_loaded (loading h s) (loading k n) row t loaded range came
 loaded_after (Err e) h k s n row loaded range came same = subst (λ (o : Option Header). IsLoaded (loading o n)) (sym same.0) (subst (λ (m : State). IsLoaded (loading h m)) (sym same.1) loaded)
 
@@ -121,11 +117,14 @@ loaded_after (Err e) h k s n row loaded range came same = subst (λ (o : Option 
 
 pub served_place : (h : Header) (s : State) (station : ℕ) (x : LastAccepted) → served_may h s station x ≡ true → (0 < station) × (station ≤ length s.served)
 served_place h s station x may =
-    let four = left _ _ (left _ _ may) in
-    let three = left _ _ four in
-    (ltb-true _ _ (right (mail_done h s && nat_lt (how_many s.served) h.served) _ three), leb-true _ _ (right (mail_done h s && nat_lt (how_many s.served) h.served && nat_lt 0 station) _ four))
+    let four = first_true _ _ (first_true _ _ may) in
+    let three = first_true _ _ four in (
+      ltb-true _ _ (second_true (mail_done h s && nat_lt (how_many s.served) h.served) _ three),
+      leb-true _ _ (second_true (mail_done h s && nat_lt (how_many s.served) h.served && nat_lt 0 station) _ four),
+    )
 
-pub with_last : (h : Header) (s : State) (station : ℕ) (x : LastAccepted) (served : List (Option LastAccepted)) → served_may h s station x ≡ true → served ≡ slice_set s.served (station - 1) (Some x) → IsOutcome (put h s (ServedRow station x)) s true (record s { served = served })
+pub with_last : (h : Header) (s : State) (station : ℕ) (x : LastAccepted) (served : List (Option LastAccepted)) → served_may h s station x ≡ true →
+    served ≡ slice_set s.served (station - 1) (Some x) → IsOutcome (put h s (ServedRow station x)) s true (record s { served = served })
 with_last h s station x served may is = rw may (refl, λ i. record s { served = is i })
 
 pub without_last : (h : Header) (s : State) (station : ℕ) (x : LastAccepted) → served_may h s station x ≡ false → IsOutcome (put h s (ServedRow station x)) s false s
@@ -140,7 +139,8 @@ pub came_first : (o : Option Header) (s : State) (row : Row) (t : Bool) (n : Loa
 unfolding row_taken
 came_first o s row t n is came = subst (λ (p : Option Header). IsOutcome (take_by p s row) (loading o s) t n) (sym is) came
 
-pub came_later : (o : Option Header) (h : Header) (s n : State) (row : Row) (t : Bool) → o ≡ Some h → IsOutcome (put h s row) s t n → IsOutcome (row_taken (loading o s) row) (loading o s) t (loading o n)
+pub came_later : (o : Option Header) (h : Header) (s n : State) (row : Row) (t : Bool) → o ≡ Some h → IsOutcome (put h s row) s t n →
+    IsOutcome (row_taken (loading o s) row) (loading o s) t (loading o n)
 unfolding row_taken
 came_later o h s n row t is came = subst (λ (p : Option Header). IsOutcome (take_by p s row) (loading p s) t (loading p n)) (sym is) (came_with h s n (put h s row) t came)
 

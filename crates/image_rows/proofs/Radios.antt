@@ -8,6 +8,7 @@ use Rattle.std.specs.FinMap as map
 use Rattle.std.proofs.lemmas.Bool.{lt-ltb, le-leb, eqb-true, eq-eqb}
 use Rattle.std.proofs.lemmas.List.{append-nil}
 use Rattle.std.proofs.lemmas.List.Elements.{All-head, All-tail}
+use Rattle.base.proofs.Bools.{and_is_true}
 use Rattle.identity.specs.Number.{number}
 use Rattle.identity.specs.Inside.NumberLaws.{number-lt}
 use Rattle.identity.specs.Path.{Path, path_cmp, id_path}
@@ -22,7 +23,7 @@ use Rattle.centre_core.specs.StateRanges.{AllEntries, RadioInRange, AttachmentIn
 use Rattle.centre_core.proofs.EntriesLaws.{found_in}
 use Rattle.image_rows.specs.Rows.{Header, radio_row, groups_of}
 use Rattle.image_rows.specs.Loading.{◌>>=◌, Loading, row_taken, all_taken, is_next, rules_done, radio_may, taken_radio, with_attachments}
-use Rattle.image_rows.proofs.Order.{both, entries_next, next_of, fewer}
+use Rattle.image_rows.proofs.Order.{entries_next, next_of, fewer}
 use Rattle.image_rows.proofs.Groups.{groups_sorted, length_groups, get_with_attachments}
 use Rattle.image_rows.proofs.Rules.{at}
 
@@ -60,7 +61,8 @@ by_radio radio true o r = or_less (is_some r) o
 by_radio radio false o r = refl
 
 -- a radio's row adds its attachments to those of the radios before
-one_more : (full : Attached) (radios : PathMap Radio) (itsi : ℕ) (radio : Radio) → AllEntries AttachmentInRange full → itsi < 2 ^ 48 → with_attachments (known_of full radios) itsi (groups_of full itsi) ≡ known_of full (map.insert radios (id_path itsi) radio)
+one_more : (full : Attached) (radios : PathMap Radio) (itsi : ℕ) (radio : Radio) → AllEntries AttachmentInRange full → itsi < 2 ^ 48 →
+    with_attachments (known_of full radios) itsi (groups_of full itsi) ≡ known_of full (map.insert radios (id_path itsi) radio)
 one_more full radios itsi radio ranges fits =
     map.same_map pairs_total pairs_exact _ _ (λ q.
     get_with_attachments (known_of full radios) full itsi q
@@ -68,7 +70,8 @@ one_more full radios itsi radio ranges fits =
     ∙ at_pair q (map.get full q) refl
     ∙ sym (get_known full (map.insert radios (id_path itsi) radio) q))
   where
-    at_pair : (q : Pair) (o : Option Usage) → map.get full q ≡ o → option_or (cond (q.0 == itsi) o None) (cond (is_known radios q) o None) ≡ cond (is_known (map.insert radios (id_path itsi) radio) q) o None
+    at_pair : (q : Pair) (o : Option Usage) → map.get full q ≡ o → option_or (cond (q.0 == itsi) o None) (cond (is_known radios q) o None) ≡ cond
+        (is_known (map.insert radios (id_path itsi) radio) q) o None
     at_pair q None e = nothing (q.0 == itsi) (is_known radios q) (is_known (map.insert radios (id_path itsi) radio) q)
     at_pair q (Some usage) e =
         let range = found_in pairs_total pairs_exact AttachmentInRange full q usage ranges e in
@@ -97,7 +100,8 @@ abbrev of_stations : ℕ → Path × Radio → Type 0
 of_stations stations e = RadioInRange stations e.0 e.1
 
 -- the radios that are left
-pub radios_taken : (h : Header) (s : State) (full : PathMap Radio) (groups : Attached) (es : List (Path × Radio)) → rules_done h s ≡ true → h.radios ≡ map.len full → AllGroupsFit groups → AllEntries AttachmentInRange groups → All (of_stations s.registered.limits.stations) es
+pub radios_taken : (h : Header) (s : State) (full : PathMap Radio) (groups : Attached) (es : List (Path × Radio)) → rules_done h s ≡ true →
+    h.radios ≡ map.len full → AllGroupsFit groups → AllEntries AttachmentInRange groups → All (of_stations s.registered.limits.stations) es
     → map.entries s.registered.radios ++ es ≡ map.entries full → s.groups ≡ known_of groups s.registered.radios
     → all_taken (at h s) (each (radio_row groups) es) ≡ Some (at h (with_radios s full (known_of groups full)))
 unfolding row_taken
@@ -113,11 +117,16 @@ radios_taken h s full groups (e ∷ es) ruled stated few ranges all is so =
     let fits : itsi < 2 ^ 48 = subst (λ n. itsi < 2 ^ n) here_in.0 (number-lt e.0) in
     let ordered : is_next old (id_path itsi) ≡ true = ap (is_next old) bits ∙ next_of path_cmp old full e es is in
     let may : radio_may h s itsi e.1 gs ≡ true =
-    both _ _ (both _ _ (both _ _ (both _ _ (both _ _ (both _ _ ruled (lt-ltb (map.len old) h.radios (rw stated (fewer path_cmp old full e es is)))) ordered) (lt-ltb 0 e.1.station here_in.1)) (le-leb _ _ here_in.2)) (le-leb _ _ (rw (length_groups groups itsi) (few itsi)))) (groups_sorted groups itsi) in
+    and_is_true _ _ (and_is_true _ _
+    (and_is_true _ _ (and_is_true _ _
+    (and_is_true _ _ (and_is_true _ _ ruled (lt-ltb (map.len old) h.radios (rw stated (fewer path_cmp old full e es is)))) ordered)
+    (lt-ltb 0 e.1.station here_in.1)) (le-leb _ _ here_in.2)) (le-leb _ _ (rw (length_groups groups itsi) (few itsi)))) (groups_sorted groups itsi)
+    in
     let n : State = taken_radio s itsi e.1 gs in
     let here : row_taken (at h s) (radio_row groups e) ≡ Some (at h n) = rw may refl in
     let more : map.entries n.registered.radios ++ es ≡ map.entries full =
     ap (λ (l : List (Path × Radio)). l ++ es) (entries_next paths_total old (id_path itsi) e.1 ordered) ∙ append_assoc (map.entries old) ((id_path itsi, e.1) ∷ []) es
     ∙ ap (λ (p : Path). map.entries old ++ (p, e.1) ∷ es) bits ∙ is in
     ap (λ (r : Option Loading). r >>= λ n. all_taken n (each (radio_row groups) es)) here
-    ∙ radios_taken h n full groups es ruled stated few ranges (All-tail (of_stations s.registered.limits.stations) e es all) more (ap (λ (g : Attached). with_attachments g itsi gs) so ∙ one_more groups old itsi e.1 ranges fits)
+    ∙ radios_taken h n full groups es ruled stated few ranges (All-tail (of_stations s.registered.limits.stations) e es all) more
+    (ap (λ (g : Attached). with_attachments g itsi gs) so ∙ one_more groups old itsi e.1 ranges fits)

@@ -1,8 +1,10 @@
 -- The two laws of a row: what is read is its bytes, in range, and its bytes are read again, whatever follows them.
-use Rattle.std.proofs.Common.{◌≡◌, ℕ, zero, suc, ◌^◌, ◌<◌, ◌≤◌, Bool, true, false, cond, leb, eqb, List, [], ◌∷◌, ◌++◌, length, Option, Some, None, refl, sym, ap, subst, ◌∙◌, arith, inl, inr, ◌||◌}
+use Rattle.std.proofs.Common.{◌≡◌, ℕ, ◌^◌, ◌<◌, ◌≤◌, Bool, true, false, cond, leb, eqb, List, [], ◌∷◌, ◌++◌, length, Option, Some, None, refl, sym, ap, subst, ◌∙◌, arith, inl, inr, ◌||◌}
 use Rattle.std.specs.Prelude.{IfSome}
 use Rattle.std.specs.List.{flat_map}
 use Rattle.std.proofs.lemmas.Bool.{eqb-true, leb-true, le-leb, ne_eqb}
+use Rattle.base.proofs.Numbers.{not_zero}
+use Rattle.base.proofs.Options.{some_is}
 use Rattle.registration.specs.declared.rule.Rule.{Rule}
 use Rattle.registration.specs.declared.radio.Radio.{Radio}
 use Rattle.mailbox.specs.declared.key.Key.{Key}
@@ -15,11 +17,12 @@ use Rattle.command_bytes.specs.Fields.{◌>>=◌, big, number_at}
 use Rattle.command_bytes.specs.Text.{prefix_text, rule_text, key_text, bits_text}
 use Rattle.command_bytes.specs.Reading.{Read, prefix_at, rule_at, area_at, key_at, bits_at}
 use Rattle.command_bytes.proofs.Numbers.{number_small, number_again}
-use Rattle.command_bytes.proofs.Steps.{Takes, takes_both, bind_some, some_is, some_where, some_unless, then_again, last_again}
+use Rattle.command_bytes.proofs.Steps.{Takes, takes_both, bind_some, some_where, some_unless, then_again, last_again}
 use Rattle.command_bytes.proofs.PartLaws.{number_read, prefix_takes, prefix_again, rule_takes, rule_again, area_takes, area_again, key_takes, key_again, bits_takes, bits_again}
 use Rattle.image_rows.specs.Rows.{Row, HeaderRow, RuleRow, RadioRow, MailRow, ServedRow, Header, Group, RadioRowInRange, ServedRowInRange}
 use Rattle.image_rows.specs.RowText.{present_number, group_text, radio_text, copied_text, item_text, reply_bits, served_text, mail_tag, header_tag, plain_header_tag, tag_of, fields_of}
-use Rattle.image_rows.specs.RowReading.{header_at, rule_row_at, present_of, groups_at, radio_row_at, copied_at, item_at, reply_of, served_row_at, is_header_tag, fields_at, row_at, ItemAsRead, RowAsRead, IsTagOf}
+use Rattle.image_rows.specs.RowReading.{header_at, rule_row_at, present_of, groups_at, radio_row_at, copied_at, item_at, reply_of, served_row_at}
+use Rattle.image_rows.specs.RowReading.{is_header_tag, fields_at, row_at, ItemAsRead, RowAsRead, IsTagOf}
 use Rattle.image_rows.proofs.RowParts.{header_takes, header_again, present_is, present_back, groups_take, groups_again}
 
 -- what was read after a tag
@@ -136,7 +139,8 @@ radio_row_takes bytes x are e =
       };
     })
 
-radio_row_again : (itsi : ℕ) (radio : Radio) (groups : List Group) (rest : List ℕ) → RadioRowInRange itsi radio groups → radio_row_at (radio_text itsi radio groups ++ rest) ≡ Some (RadioRow itsi radio groups, rest)
+radio_row_again : (itsi : ℕ) (radio : Radio) (groups : List Group) (rest : List ℕ) → RadioRowInRange itsi radio groups →
+    radio_row_at (radio_text itsi radio groups ++ rest) ≡ Some (RadioRow itsi radio groups, rest)
 unfolding radio_row_at itsi_step station_step area_step number_step present_step count_step groups_step big
 radio_row_again itsi radio groups rest fits =
     let y : Row × List ℕ = (RadioRow itsi radio groups, rest) in
@@ -149,7 +153,8 @@ radio_row_again itsi radio groups rest fits =
     then_again (big 6 itsi) t1 rest (number_at 6) itsi_step itsi y (number_again 6 itsi (t1 ++ rest) fits.number)
     (then_again (big 2 radio.station) t2 rest (number_at 2) (station_step itsi) radio.station y (number_again 2 radio.station (t2 ++ rest) fits.station)
     (then_again (big 2 radio.area) t3 rest area_at (area_step itsi radio.station) radio.area y (area_again radio.area (t3 ++ rest) fits.area)
-    (then_again (big 1 (present_number radio.present)) t4 rest (number_at 1) (number_step itsi radio.station radio.area) (present_number radio.present) y (number_again 1 (present_number radio.present) (t4 ++ rest) back.1)
+    (then_again (big 1 (present_number radio.present)) t4 rest (number_at 1) (number_step itsi radio.station radio.area)
+    (present_number radio.present) y (number_again 1 (present_number radio.present) (t4 ++ rest) back.1)
     (last_again (present_step itsi radio.station radio.area (t4 ++ rest)) back.0
     (then_again (big 1 (length groups)) t5 rest (number_at 1) (count_step itsi radio.station radio.area radio.present) (length groups) y (number_again 1 (length groups) (t5 ++ rest) fits.count)
     (last_again (groups_step itsi radio.station radio.area radio.present) (groups_again groups rest fits.each_group) refl))))))
@@ -159,10 +164,12 @@ radio_row_again itsi radio groups rest fits =
 copied_of : ℕ × List ℕ → Read (Option ℕ)
 copied_of gtsi = Some (Some gtsi.0, gtsi.1)
 
-copied_takes : (copied : Bool) (bytes : List ℕ) (x : Option ℕ × List ℕ) → AreBytes bytes → copied_at copied bytes ≡ Some x → Takes bytes (copied_text x.0) x.1 × IfSome x.0 (λ gtsi. gtsi < 2 ^ 48) × (mail_tag x.0 ≡ cond copied 21 19)
+copied_takes : (copied : Bool) (bytes : List ℕ) (x : Option ℕ × List ℕ) → AreBytes bytes → copied_at copied bytes ≡ Some x →
+    Takes bytes (copied_text x.0) x.1 × IfSome x.0 (λ gtsi. gtsi < 2 ^ 48) × (mail_tag x.0 ≡ cond copied 21 19)
 unfolding copied_of
 copied_takes false bytes x are e =
-    subst (λ (y : Option ℕ × List ℕ). Takes bytes (copied_text y.0) y.1 × IfSome y.0 (λ gtsi. gtsi < 2 ^ 48) × (mail_tag y.0 ≡ 19)) (some_is (None, bytes) x e) (record { is = refl; are = are }, tt, refl)
+    subst (λ (y : Option ℕ × List ℕ). Takes bytes (copied_text y.0) y.1 × IfSome y.0 (λ gtsi. gtsi < 2 ^ 48) × (mail_tag y.0 ≡ 19))
+    (some_is (None, bytes) x e) (record { is = refl; are = are }, tt, refl)
 copied_takes true bytes x are e =
     let a = bind_some (number_at 6 bytes) copied_of x e in
     let gtsi : ℕ × List ℕ = a.0 in
@@ -193,7 +200,8 @@ deadline_step copied number deadline = key_at deadline.1 >>= key_step copied num
 first_step : Bool → ℕ × List ℕ → Read Item
 first_step copied number = number_at 8 number.1 >>= deadline_step copied number.0
 
-item_takes : (copied : Bool) (bytes : List ℕ) (x : Item × List ℕ) → AreBytes bytes → item_at copied bytes ≡ Some x → Takes bytes (item_text x.0) x.1 × ItemAsRead x.0 × (mail_tag x.0.group ≡ cond copied 21 19)
+item_takes : (copied : Bool) (bytes : List ℕ) (x : Item × List ℕ) → AreBytes bytes → item_at copied bytes ≡ Some x → Takes bytes (item_text x.0) x.1 ×
+    ItemAsRead x.0 × (mail_tag x.0.group ≡ cond copied 21 19)
 unfolding item_at first_step deadline_step key_step group_step pdu_step big
 item_takes copied bytes x are e =
     let a = bind_some (number_at 8 bytes) (first_step copied) x e in
@@ -273,10 +281,6 @@ sequence_step station sequence = number_at 8 sequence.1 >>= served_number_step s
 served_station_step : ℕ × List ℕ → Read Row
 served_station_step station = number_at 4 station.1 >>= sequence_step station.0
 
-not_zero : (n : ℕ) → eqb n 0 ≡ false → 0 < n
-not_zero zero e = absurd cc
-not_zero (suc n) e = omega arith
-
 served_row_takes : (bytes : List ℕ) (x : Row × List ℕ) → AreBytes bytes → served_row_at bytes ≡ Some x → Reads 20 bytes x
 unfolding served_row_at served_station_step sequence_step served_number_step reply_step big
 served_row_takes bytes x are e =
@@ -330,14 +334,16 @@ served_row_again station last rest fits =
 -- ---- the whole
 
 -- a case of the tags
-on_tag : (n tag : ℕ) (bytes : List ℕ) (x : Row × List ℕ) (here others : Read Row) → (here ≡ Some x → Reads n bytes x) → (others ≡ Some x → Reads tag bytes x) → cond (eqb tag n) here others ≡ Some x → Reads tag bytes x
+on_tag : (n tag : ℕ) (bytes : List ℕ) (x : Row × List ℕ) (here others : Read Row) → (here ≡ Some x → Reads n bytes x) →
+    (others ≡ Some x → Reads tag bytes x) → cond (eqb tag n) here others ≡ Some x → Reads tag bytes x
 on_tag n tag bytes x here others found later e = by (eqb tag n) refl e
   where
     by : (b : Bool) → eqb tag n ≡ b → cond b here others ≡ Some x → Reads tag bytes x
     by true is e = subst (λ (k : ℕ). Reads k bytes x) (sym (eqb-true tag n is)) (found e)
     by false is e = later e
 
-on_header : (tag : ℕ) (bytes : List ℕ) (x : Row × List ℕ) (here others : Read Row) → (is_header_tag tag ≡ true → here ≡ Some x → Reads tag bytes x) → (others ≡ Some x → Reads tag bytes x) → cond (is_header_tag tag) here others ≡ Some x → Reads tag bytes x
+on_header : (tag : ℕ) (bytes : List ℕ) (x : Row × List ℕ) (here others : Read Row) → (is_header_tag tag ≡ true → here ≡ Some x → Reads tag bytes x) →
+    (others ≡ Some x → Reads tag bytes x) → cond (is_header_tag tag) here others ≡ Some x → Reads tag bytes x
 on_header tag bytes x here others found later e = by (is_header_tag tag) refl e
   where
     by : (b : Bool) → is_header_tag tag ≡ b → cond b here others ≡ Some x → Reads tag bytes x

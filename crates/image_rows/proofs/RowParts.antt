@@ -4,6 +4,8 @@ use Rattle.std.specs.Prelude.{◌&&◌}
 use Rattle.std.specs.List.{All, flat_map}
 use Rattle.std.proofs.lemmas.Bool.{eqb-true, leb-true, ltb-true, le-leb, lt-ltb}
 use Rattle.std.proofs.lemmas.List.Elements.{All-nil, All-cons, All-head, All-tail}
+use Rattle.base.proofs.Bools.{both_true, and_is_true}
+use Rattle.base.proofs.Options.{some_is}
 use Rattle.mm_pdus.specs.declared.lifetime.Lifetime.{Lifetime}
 use Rattle.mm_pdus.specs.declared.lifetime.Lifetime.TheVariants.{NotNeeded, NextItsiAttach, NotAllowedAtNextItsiAttach, NextLocationUpdate}
 use Rattle.mm_pdus.specs.Values.{lifetime_number, lifetime_of}
@@ -12,24 +14,18 @@ use Rattle.identity.specs.Packed.{AreBytes}
 use Rattle.command_bytes.specs.Fields.{◌>>=◌, big, number_at}
 use Rattle.command_bytes.specs.Reading.{Read}
 use Rattle.command_bytes.proofs.Numbers.{number_small, number_again}
-use Rattle.command_bytes.proofs.Steps.{Takes, takes_both, bind_some, some_is, some_where, then_again, last_again}
+use Rattle.command_bytes.proofs.Steps.{Takes, takes_both, bind_some, some_where, then_again, last_again}
 use Rattle.command_bytes.proofs.PartLaws.{number_read, lifetime_is, lifetime_back}
 use Rattle.image_rows.specs.Rows.{Header, HeaderInRange, Group, GroupInRange, last_epoch}
 use Rattle.image_rows.specs.RowText.{header_text, present_number, usage_number, group_text}
 use Rattle.image_rows.specs.RowReading.{header_at, present_of, usage_of, group_at, groups_at}
 
-pub both_true : (a b : Bool) → (a && b) ≡ true → (a ≡ true) × (b ≡ true)
-both_true true b e = (refl, e)
-both_true false b e = absurd cc
-
-pub all_true : (a b : Bool) → a ≡ true → b ≡ true → (a && b) ≡ true
-all_true true b e f = f
-all_true false b e f = absurd cc
-
 -- ---- the header
 
 served_step : ℕ → ℕ → ℕ → ℕ → ℕ → ℕ × List ℕ → Read Header
-served_step epoch count rules radios mail served = cond (ltb 0 epoch && leb epoch last_epoch) (Some (record { epoch = epoch; count = count; rules = rules; radios = radios; mail = mail; served = served.0 }, served.1)) None
+served_step epoch count rules radios mail served =
+    cond (ltb 0 epoch && leb epoch last_epoch)
+    (Some (record { epoch = epoch; count = count; rules = rules; radios = radios; mail = mail; served = served.0 }, served.1)) None
 
 mail_step : ℕ → ℕ → ℕ → ℕ → ℕ × List ℕ → Read Header
 mail_step epoch count rules radios mail = number_at 4 mail.1 >>= served_step epoch count rules radios mail.0
@@ -102,7 +98,7 @@ header_again h rest fits =
     (then_again (big 4 h.radios) t4 rest (number_at 4) (radios_step h.epoch h.count h.rules) h.radios (h, rest) (number_again 4 h.radios (t4 ++ rest) fits.radios)
     (then_again (big 4 h.mail) t5 rest (number_at 4) (mail_step h.epoch h.count h.rules h.radios) h.mail (h, rest) (number_again 4 h.mail (t5 ++ rest) fits.mail)
     (last_again (served_step h.epoch h.count h.rules h.radios h.mail) (number_again 4 h.served rest fits.served)
-    (ap (λ (b : Bool). cond b (Some (h, rest)) None) (all_true (ltb 0 h.epoch) (leb h.epoch last_epoch) (lt-ltb _ _ fits.some) (le-leb _ _ fits.most))))))))
+    (ap (λ (b : Bool). cond b (Some (h, rest)) None) (and_is_true (ltb 0 h.epoch) (leb h.epoch last_epoch) (lt-ltb _ _ fits.some) (le-leb _ _ fits.most))))))))
 
 -- ---- whether a radio is present
 
@@ -146,7 +142,8 @@ usage_back usage small =
     let fits : number < 32 = omega (arith, low, small) in
     let class : number / 4 ≡ usage.0 = omega (arith, low) in
     let lifetime : number % 4 ≡ lifetime_number usage.1 = omega (arith, low) in
-    let read : (lifetime_of (number % 4) >>= usage_step number) ≡ Some usage = last_again (usage_step number) (ap lifetime_of lifetime ∙ (lifetime_back usage.1).0) (ap (λ (n : ℕ). Some (n, usage.1)) class) in
+    let read : (lifetime_of (number % 4) >>= usage_step number) ≡ Some usage =
+    last_again (usage_step number) (ap lifetime_of lifetime ∙ (lifetime_back usage.1).0) (ap (λ (n : ℕ). Some (n, usage.1)) class) in
     (ap (λ (b : Bool). cond b (lifetime_of (number % 4) >>= usage_step number) None) (lt-ltb _ _ fits) ∙ read, omega (arith, fits))
 
 known_step : ℕ → List ℕ → Usage → Read Group

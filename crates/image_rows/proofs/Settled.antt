@@ -1,5 +1,7 @@
 -- A row whose PDU is in its written form is read as it is; and what is read is such a row.
 use Rattle.std.proofs.Common.{◌≡◌, ℕ, ◌≤◌, Bool, true, cond, List, ◌++◌, length, Option, Some, None, refl, sym, ap, subst, ◌∙◌, arith, inl}
+use Rattle.base.proofs.Bools.{and_is_true, first_true, second_true}
+use Rattle.base.proofs.Options.{some_is}
 use Rattle.sds_tl.specs.declared.fault.SdsFault.{SdsFault}
 use Rattle.sds_tl.specs.declared.pdu.Head.{Head}
 use Rattle.sds_tl.specs.Syntax.{Spells}
@@ -12,13 +14,11 @@ use Rattle.mailbox.specs.Values.{Item}
 use Rattle.mailbox.specs.Sound.{is_head_of, may_have_group, is_as_named}
 use Rattle.identity.specs.Packed.{AreBytes}
 use Rattle.command_bytes.specs.Fields.{◌>>=◌, number_at}
-use Rattle.command_bytes.proofs.Steps.{bind_some, some_is, some_where, last_again}
+use Rattle.command_bytes.proofs.Steps.{bind_some, some_where, last_again}
 use Rattle.image_rows.specs.Rows.{Row, HeaderRow, RuleRow, RadioRow, MailRow, ServedRow}
 use Rattle.image_rows.specs.RowText.{tag_of, row_bytes}
 use Rattle.image_rows.specs.RowReading.{row_at, fields_at, fields_in, row_in, is_known, written, settled, IsRow, RowAsRead, Spells as SpellsRow}
 use Rattle.image_rows.proofs.RowLaws.{row_takes, row_again}
-use Rattle.image_rows.proofs.Order.{both}
-use Rattle.identity.proofs.NumberText.{and_left as left, and_right as right}
 
 -- ---- PDUs
 
@@ -47,7 +47,7 @@ cleared_again bits none =
 
 -- what is as its key says has a PDU of its kind and reference
 pub headed : (w : Item) → is_as_named w ≡ true → is_head_of w.key.kind w.key.reference (heading w.pdu) ≡ true
-headed w known = right (may_have_group w.key.kind w.group) _ known
+headed w known = second_true (may_have_group w.key.kind w.group) _ known
 
 -- such a PDU is written as one without fault
 cleared_of : (w : Item) → is_as_named w ≡ true → IsCleared w.pdu
@@ -56,7 +56,7 @@ cleared_of w known = cleared_again w.pdu (faultless w.key.kind w.key.reference (
 -- what is as its key says still is, once its PDU is written
 pub still_known : (w : Item) → is_as_named w ≡ true → is_as_named (record w { pdu = cleared w.pdu }) ≡ true
 still_known w known =
-    both (may_have_group w.key.kind w.group) _ (left (may_have_group w.key.kind w.group) _ known)
+    and_is_true (may_have_group w.key.kind w.group) _ (first_true (may_have_group w.key.kind w.group) _ known)
     (ap (is_head_of w.key.kind w.key.reference) (cleared_of w known).head ∙ headed w known)
 
 -- ---- what is read is a row

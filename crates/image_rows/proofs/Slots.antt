@@ -23,7 +23,8 @@ one_further : (limits : Limits) (prefix : List Row) (l n : Loading) (row : Row) 
 one_further limits prefix l n row reached is = then_all limits prefix (row ∷ []) l reached ∙ ap (λ r. r >>= λ m. all_taken m []) is
 
 -- an image that is whole has no rows after it
-not_whole : (limits : Limits) (prefix : List Row) (row : Row) (rows : List Row) (l : Loading) (image : ℕ × State) → All RowInRange prefix → All RowInRange (row ∷ rows) → Reached limits prefix l → (all_taken l (row ∷ rows) >>= finished) ≡ Some image → finished l ≡ None
+not_whole : (limits : Limits) (prefix : List Row) (row : Row) (rows : List Row) (l : Loading) (image : ℕ × State) → All RowInRange prefix →
+    All RowInRange (row ∷ rows) → Reached limits prefix l → (all_taken l (row ∷ rows) >>= finished) ≡ Some image → finished l ≡ None
 not_whole limits prefix row rows l image low high reached is =
     elim (finished l) as (λ o. finished l ≡ o → o ≡ None) [
       | None ↦ λ e. refl
@@ -41,13 +42,15 @@ ends place n following image e = rw e refl
 goes_on : (place : ℕ) (n : Loading) (following : List (Option Row)) → finished n ≡ None → with_row place (Some n) (λ m. read_from (place + 1) m following) ≡ read_from (place + 1) n following
 goes_on place n following e = rw e refl
 
-one_step : (l : Loading) (row : Row) (rows : List Row) (image : ℕ × State) → (all_taken l (row ∷ rows) >>= finished) ≡ Some image → (n : Loading) × (row_taken l row ≡ Some n) × ((all_taken n rows >>= finished) ≡ Some image)
+one_step : (l : Loading) (row : Row) (rows : List Row) (image : ℕ × State) → (all_taken l (row ∷ rows) >>= finished) ≡ Some image → (n : Loading) ×
+    (row_taken l row ≡ Some n) × ((all_taken n rows >>= finished) ≡ Some image)
 one_step l row rows image is =
     let whole = bind_some (all_taken l (row ∷ rows)) finished image is in
     let first = bind_some (row_taken l row) (λ n. all_taken n rows) whole.0 whole.1 in
     (first.0, first.1, ap (λ r. r >>= finished) first.2 ∙ whole.2)
 
-reads_from : (limits : Limits) (prefix : List Row) (row : Row) (rows : List Row) (following : List (Option Row)) (place : ℕ) (l : Loading) (image : ℕ × State) → All RowInRange prefix → All RowInRange (row ∷ rows) → Reached limits prefix l
+reads_from : (limits : Limits) (prefix : List Row) (row : Row) (rows : List Row) (following : List (Option Row)) (place : ℕ) (l : Loading)
+    (image : ℕ × State) → All RowInRange prefix → All RowInRange (row ∷ rows) → Reached limits prefix l
     → (all_taken l (row ∷ rows) >>= finished) ≡ Some image → read_from place l (each Some (row ∷ rows) ++ following) ≡ Ok image
 reads_from limits prefix row [] following place l image low high reached is =
     let step = one_step l row [] image is in
@@ -61,7 +64,8 @@ reads_from limits prefix row (next ∷ rest) following place l image low high re
     ∙ goes_on place step.0 (each Some (next ∷ rest) ++ following) (not_whole limits (prefix ++ row ∷ []) next rest step.0 image longer others further step.2)
     ∙ reads_from limits (prefix ++ row ∷ []) next rest following (place + 1) step.0 image longer others further step.2
 
-pub slot_reads : (limits : Limits) (rows : List Row) (following : List (Option Row)) (image : ℕ × State) → All RowInRange rows → state_of_rows limits rows ≡ Some image → slot_read limits (each Some rows ++ following) ≡ Ok image
+pub slot_reads : (limits : Limits) (rows : List Row) (following : List (Option Row)) (image : ℕ × State) → All RowInRange rows →
+    state_of_rows limits rows ≡ Some image → slot_read limits (each Some rows ++ following) ≡ Ok image
 unfolding finished
 slot_reads limits [] following image ranges is = absurd cc
 slot_reads limits (row ∷ rows) following image ranges is = reads_from limits [] row rows following 0 (begun limits) image (All-nil RowInRange) ranges refl is
@@ -88,10 +92,23 @@ found_from place l (Some row ∷ sectors) image is =
       | None ↦ λ e none. absurd cc
       | Some n ↦ λ e on.
           elim (finished n) as (λ o. finished n ≡ o → or_later o (read_from (place + 1) n sectors) ≡ Ok image → Found l (Some row ∷ sectors) image) [
-            | Some last ↦ λ done here. record { rows = row ∷ []; following = sectors; are = refl; state_is = ap (λ r. (r >>= λ m. all_taken m []) >>= finished) e ∙ done ∙ ap Some (ok_is last image here) }
+            | Some last ↦ λ done here.
+                record {
+                  rows = row ∷ [];
+                  following = sectors;
+                  are = refl;
+                  state_is = ap (λ r. (r >>= λ m. all_taken m []) >>= finished) e ∙ done ∙
+                      ap Some (ok_is last image here);
+                }
             | None ↦ λ more later.
                 let rest = found_from (place + 1) n sectors image later in
-                record { rows = row ∷ rest.rows; following = rest.following; are = ap (λ (xs : List (Option Row)). Some row ∷ xs) rest.are; state_is = ap (λ r. (r >>= λ m. all_taken m rest.rows) >>= finished) e ∙ rest.state_is }
+                record {
+                  rows = row ∷ rest.rows;
+                  following = rest.following;
+                  are = ap (λ (xs : List (Option Row)). Some row ∷ xs) rest.are;
+                  state_is =
+                      ap (λ r. (r >>= λ m. all_taken m rest.rows) >>= finished) e ∙ rest.state_is;
+                }
           ] refl on
     ] refl is
 
@@ -111,7 +128,8 @@ pub record Stopped (l : Loading) (sectors : List (Option Row)) (place at : ℕ) 
 
 stopped_from : (place : ℕ) (l : Loading) (sectors : List (Option Row)) (at : ℕ) → read_from place l sectors ≡ Err at → Stopped l sectors place at
 stopped_from place l [] at is = let e = err_is place at is in record { rows = []; following = []; so_far = l; are = refl; so_many = omega (arith, e); taken = refl; bad = tt }
-stopped_from place l (None ∷ sectors) at is = let e = err_is place at is in record { rows = []; following = None ∷ sectors; so_far = l; are = refl; so_many = omega (arith, e); taken = refl; bad = refl }
+stopped_from place l (None ∷ sectors) at is = let e = err_is place at is in
+    record { rows = []; following = None ∷ sectors; so_far = l; are = refl; so_many = omega (arith, e); taken = refl; bad = refl }
 stopped_from place l (Some row ∷ sectors) at is =
     elim (row_taken l row) as (λ r. row_taken l row ≡ r → with_row place r (λ n. read_from (place + 1) n sectors) ≡ Err at → Stopped l (Some row ∷ sectors) place at) [
       | None ↦ λ e none. let same = err_is place at none in record { rows = []; following = Some row ∷ sectors; so_far = l; are = refl; so_many = omega (arith, same); taken = refl; bad = e }
@@ -121,7 +139,17 @@ stopped_from place l (Some row ∷ sectors) at is =
             | None ↦ λ more later.
                 let rest = stopped_from (place + 1) n sectors at later in
                 let many = rest.so_many in
-                record { rows = row ∷ rest.rows; following = rest.following; so_far = rest.so_far; are = ap (λ (xs : List (Option Row)). Some row ∷ xs) rest.are; so_many = omega (arith, many); taken = ap (λ r. r >>= λ m. all_taken m rest.rows) e ∙ rest.taken; bad = rest.bad }
+                record {
+                  rows = row ∷ rest.rows;
+                  following = rest.following;
+                  so_far = rest.so_far;
+                  are =
+                      ap (λ (xs : List (Option Row)). Some row ∷ xs) rest.are;
+                  so_many = omega (arith, many);
+                  taken =
+                      ap (λ r. r >>= λ m. all_taken m rest.rows) e ∙ rest.taken;
+                  bad = rest.bad;
+                }
           ] refl on
     ] refl is
 

@@ -7,10 +7,10 @@ use Rattle.std.proofs.lemmas.Bool.{lt-ltb, le-leb}
 use Rattle.std.proofs.lemmas.List.{length-append, length_push, drop_at}
 use Rattle.std.proofs.lemmas.List.Elements.{All-head, All-tail}
 use Rattle.std.proofs.lemmas.List.Sums.{sum_by-append, sum_by-cons}
+use Rattle.base.proofs.Bools.{and_is_true}
 use Rattle.centre_core.specs.State.{State, LastAccepted, IsOfAccepted}
 use Rattle.image_rows.specs.Rows.{Header, ServedRow, served_rows, how_many}
 use Rattle.image_rows.specs.Loading.{◌>>=◌, Loading, row_taken, all_taken, mail_done, taken_served, served_may, are_free}
-use Rattle.image_rows.proofs.Order.{both}
 use Rattle.image_rows.proofs.Rules.{at}
 
 abbrev pub Entries : Type 0
@@ -60,18 +60,25 @@ served_taken h s prefix (Some last ∷ os) placed stated numbered is =
     let place : station - 1 ≡ length prefix = omega arith in
     let rest : Entries = blanks (length os) in
     let now : s.served ≡ prefix ++ None ∷ rest = is in
-    let free : are_free (drop (station - 1) s.served) ≡ true = ap (λ k. are_free (drop k s.served)) place ∙ ap (λ (l : Entries). are_free (drop (length prefix) l)) now ∙ ap are_free (drop_at prefix (None ∷ rest) (length prefix) refl) ∙ free_blanks (length os) in
+    let free : are_free (drop (station - 1) s.served) ≡ true = ap (λ k. are_free (drop k s.served)) place ∙
+    ap (λ (l : Entries). are_free (drop (length prefix) l)) now ∙ ap are_free (drop_at prefix (None ∷ rest) (length prefix) refl) ∙
+    free_blanks (length os) in
     let fewer : how_many s.served < h.served =
-    let a = ap how_many now in let b = how_many-append prefix (None ∷ rest) in let c = none_in_blanks (suc (length os)) in let d = how_many-append prefix (Some last ∷ os) in let e = how_many-cons (Some last) os in omega (arith, a, b, c, d, e, stated) in
+    let a = ap how_many now in let b = how_many-append prefix (None ∷ rest) in let c = none_in_blanks (suc (length os)) in let d =
+    how_many-append prefix (Some last ∷ os) in let e = how_many-cons (Some last) os in omega (arith, a, b, c, d, e, stated) in
     let within : station ≤ length s.served = let a = ap length now in let b = length-append prefix (None ∷ rest) in omega (arith, a, b) in
     let number = All-head (IsOfAccepted s.count) (Some last) os numbered in
     let may : served_may h s station last ≡ true =
-    both _ _ (both _ _ (both _ _ (both _ _ (both _ _ placed (lt-ltb _ _ fewer)) (lt-ltb 0 station (omega arith))) (le-leb _ _ within)) free) (both _ _ (lt-ltb _ _ number.0) (le-leb _ _ number.1)) in
+    and_is_true _ _ (and_is_true _ _
+    (and_is_true _ _ (and_is_true _ _ (and_is_true _ _ placed (lt-ltb _ _ fewer)) (lt-ltb 0 station (omega arith))) (le-leb _ _ within)) free)
+    (and_is_true _ _ (lt-ltb _ _ number.0) (le-leb _ _ number.1)) in
     let n : State = taken_served s station last in
     let here : row_taken (at h s) (ServedRow station last) ≡ Some (at h n) = rw may refl in
     let longer : Entries = prefix ++ Some last ∷ [] in
     let regrouped : longer ++ os ≡ prefix ++ Some last ∷ os = append_assoc prefix (Some last ∷ []) os in
-    let set : n.served ≡ longer ++ rest = ap (λ k. slice_set s.served k (Some last)) place ∙ ap (λ (l : Entries). slice_set l (length prefix) (Some last)) now ∙ set_there prefix rest None (Some last) ∙ sym (append_assoc prefix (Some last ∷ []) rest) in
+    let set : n.served ≡ longer ++ rest = ap (λ k. slice_set s.served k (Some last)) place ∙
+    ap (λ (l : Entries). slice_set l (length prefix) (Some last)) now ∙ set_there prefix rest None (Some last) ∙
+    sym (append_assoc prefix (Some last ∷ []) rest) in
     ap (λ (r : Option Loading). r >>= λ n. all_taken n (served_rows (station + 1) os)) here
     ∙ ap (λ k. all_taken (at h n) (served_rows (k + 1) os)) (sym (length_push prefix (Some last)))
     ∙ served_taken h n longer os placed (stated ∙ ap how_many (sym regrouped)) (All-tail (IsOfAccepted s.count) (Some last) os numbered) set

@@ -24,7 +24,8 @@ tag_of_header : (seen : Row) (h : Header) (tag : ℕ) → seen ≡ HeaderRow h �
 tag_of_header seen h tag is (inl own) = inl (own ∙ ap tag_of is)
 tag_of_header seen h tag is (inr (g, same, plain)) = inr plain
 
-first_byte : (bytes fields rest : List ℕ) (tag : ℕ) → bytes ≡ big 1 tag ++ fields ++ rest → (tag ≡ header_tag) ⊎ (tag ≡ plain_header_tag) → (slice_index bytes 0 ≡ header_tag) ⊎ (slice_index bytes 0 ≡ plain_header_tag)
+first_byte : (bytes fields rest : List ℕ) (tag : ℕ) → bytes ≡ big 1 tag ++ fields ++ rest → (tag ≡ header_tag) ⊎ (tag ≡ plain_header_tag) →
+    (slice_index bytes 0 ≡ header_tag) ⊎ (slice_index bytes 0 ≡ plain_header_tag)
 unfolding big
 first_byte bytes fields rest tag is (inl e) = inl (ap (λ (l : List ℕ). slice_index l 0) (is ∙ ap (λ (n : ℕ). big 1 n ++ fields ++ rest) e))
 first_byte bytes fields rest tag is (inr e) = inr (ap (λ (l : List ℕ). slice_index l 0) (is ∙ ap (λ (n : ℕ). big 1 n ++ fields ++ rest) e))

@@ -49,7 +49,8 @@ module _ {X : Type 0} (R : X → X → Type 0) where
   pairs_append : (xs ys : List X) → AllPairs R xs → AllPairs R ys → All (λ x. All (R x) ys) xs → AllPairs R (xs ++ ys)
   pairs_append [] ys first second across = second
   pairs_append (x ∷ xs) ys first second across =
-      AllPairs-cons R x (xs ++ ys) (All-append (R x) xs ys (pairs_head R x xs first) (All-head (λ x. All (R x) ys) x xs across)) (pairs_append xs ys (pairs_tail R x xs first) second (All-tail (λ x. All (R x) ys) x xs across))
+      AllPairs-cons R x (xs ++ ys) (All-append (R x) xs ys (pairs_head R x xs first) (All-head (λ x. All (R x) ys) x xs across))
+      (pairs_append xs ys (pairs_tail R x xs first) second (All-tail (λ x. All (R x) ys) x xs across))
 
 module _ {X Y : Type 0} (R : Y → Y → Type 0) (f : X → Y) where
   pairs_each : (xs : List X) → AllPairs (λ a b. R (f a) (f b)) xs → AllPairs R (each f xs)
@@ -69,14 +70,17 @@ Past part rows = All (λ row. part < part_of (place_of row)) rows
 part_then_part : (part : ℕ) (xs ys : List Row) → UpTo part xs → Past part ys → AllPairs IsBefore xs → AllPairs IsBefore ys → AllPairs IsBefore (xs ++ ys)
 part_then_part part xs ys low high first second =
     pairs_append IsBefore xs ys first second
-    (All-weaker (λ x. part_of (place_of x) ≤ part) (λ x. All (IsBefore x) ys) (λ x le. All-weaker (λ y. part < part_of (place_of y)) (IsBefore x) (λ y lt. parts_rise (place_of x) (place_of y) (omega (arith, le, lt))) ys high) xs low)
+    (All-weaker (λ x. part_of (place_of x) ≤ part) (λ x. All (IsBefore x) ys)
+    (λ x le. All-weaker (λ y. part < part_of (place_of y)) (IsBefore x) (λ y lt. parts_rise (place_of x) (place_of y) (omega (arith, le, lt))) ys
+    high) xs low)
 
 -- the stations
 pub later_stations : (station k : ℕ) (os : Entries) → station < k → All (λ row. place_cmp (place.Served station) (place_of row) ≡ Less) (served_rows k os)
 later_stations station k [] below = All-nil (λ row. place_cmp (place.Served station) (place_of row) ≡ Less)
 later_stations station k (None ∷ os) below = later_stations station (k + 1) os (omega (arith, below))
 later_stations station k (Some last ∷ os) below =
-    All-cons (λ row. place_cmp (place.Served station) (place_of row) ≡ Less) _ (served_rows (k + 1) os) (ap (λ o. ordering_then o Equal) (nat_less station k below)) (later_stations station (k + 1) os (omega (arith, below)))
+    All-cons (λ row. place_cmp (place.Served station) (place_of row) ≡ Less) _ (served_rows (k + 1) os)
+    (ap (λ o. ordering_then o Equal) (nat_less station k below)) (later_stations station (k + 1) os (omega (arith, below)))
 
 stations_rise : (k : ℕ) (os : Entries) → AllPairs IsBefore (served_rows k os)
 stations_rise k [] = λ i j d less below. absurd (omega (arith, below))
@@ -116,28 +120,41 @@ past_mail s = past_three 1 s.served
 
 pub past_radios : (s : State) → Past 2 (mail_rows s ++ served_rows 1 s.served)
 past_radios s =
-    All-append (λ row. 2 < part_of (place_of row)) (mail_rows s) (served_rows 1 s.served) (All-map (λ row. 2 < part_of (place_of row)) MailRow s.mail.items (λ k d below. omega arith)) (later 2 3 (served_rows 1 s.served) (omega arith) (past_mail s))
+    All-append (λ row. 2 < part_of (place_of row)) (mail_rows s) (served_rows 1 s.served)
+    (All-map (λ row. 2 < part_of (place_of row)) MailRow s.mail.items (λ k d below. omega arith))
+    (later 2 3 (served_rows 1 s.served) (omega arith) (past_mail s))
 
 pub past_rules : (s : State) → Past 1 (radio_rows s ++ (mail_rows s ++ served_rows 1 s.served))
 past_rules s =
-    All-append (λ row. 1 < part_of (place_of row)) (radio_rows s) (mail_rows s ++ served_rows 1 s.served) (All-map (λ row. 1 < part_of (place_of row)) (radio_row s.groups) (map.entries s.registered.radios) (λ k d below. omega arith)) (later 1 2 _ (omega arith) (past_radios s))
+    All-append (λ row. 1 < part_of (place_of row)) (radio_rows s) (mail_rows s ++ served_rows 1 s.served)
+    (All-map (λ row. 1 < part_of (place_of row)) (radio_row s.groups) (map.entries s.registered.radios) (λ k d below. omega arith))
+    (later 1 2 _ (omega arith) (past_radios s))
 
 pub past_header : (s : State) → Past 0 (rule_rows s ++ (radio_rows s ++ (mail_rows s ++ served_rows 1 s.served)))
 past_header s =
-    All-append (λ row. 0 < part_of (place_of row)) (rule_rows s) _ (All-map (λ row. 0 < part_of (place_of row)) rule_row (map.entries s.registered.rules) (λ k d below. omega arith)) (later 0 1 _ (omega arith) (past_rules s))
+    All-append (λ row. 0 < part_of (place_of row)) (rule_rows s) _
+    (All-map (λ row. 0 < part_of (place_of row)) rule_row (map.entries s.registered.rules) (λ k d below. omega arith))
+    (later 0 1 _ (omega arith) (past_rules s))
 
 pub rows_rise : (epoch : ℕ) (s : State) → IsState s → StateInRange s → AreRising place_cmp place_of (rows_of epoch s)
 rows_rise epoch s is ranges =
     let es = map.entries s.registered.rules in
     let fs = map.entries s.registered.radios in
-    let rules_rise : AllPairs IsBefore (rule_rows s) = pairs_each IsBefore rule_row es (λ i j d less below. by_bits (get_or es i d).0 (get_or es j d).0 ∙ sorted_rise path_cmp es (map.entries_sorted s.registered.rules) i j d less below) in
+    let rules_rise : AllPairs IsBefore (rule_rows s) =
+    pairs_each IsBefore rule_row es (λ i j d less below. by_bits (get_or es i d).0 (get_or es j d).0 ∙
+    sorted_rise path_cmp es (map.entries_sorted s.registered.rules) i j d less below) in
     let whole = λ (k : ℕ) (d : Path × Radio) (below : k < length fs). (All-get_or (λ e. RadioInRange s.registered.limits.stations e.0 e.1) fs k d below ranges.radios).0 in
     let radios_rise : AllPairs IsBefore (radio_rows s) =
     pairs_each IsBefore (radio_row s.groups) fs (λ i j d less below. ap (λ o. ordering_then o Equal)
-    (sym (by_number (get_or fs i d).0 (get_or fs j d).0 (whole i d (omega (arith, less, below)) ∙ sym (whole j d below))) ∙ sorted_rise path_cmp fs (map.entries_sorted s.registered.radios) i j d less below)) in
+    (sym (by_number (get_or fs i d).0 (get_or fs j d).0 (whole i d (omega (arith, less, below)) ∙ sym (whole j d below))) ∙
+    sorted_rise path_cmp fs (map.entries_sorted s.registered.radios) i j d less below)) in
     let mail_rises : AllPairs IsBefore (mail_rows s) = pairs_each IsBefore MailRow s.mail.items is.mail.in_order.ordered in
-    AllPairs-cons IsBefore (HeaderRow (header_of epoch s)) _ (All-weaker (λ row. 0 < part_of (place_of row)) (IsBefore (HeaderRow (header_of epoch s))) (λ row lt. parts_rise place.Header (place_of row) lt) _ (past_header s))
-    (part_then_part 1 (rule_rows s) _ (to_rules s) (past_rules s) rules_rise (part_then_part 2 (radio_rows s) _ (to_radios s) (past_radios s) radios_rise (part_then_part 3 (mail_rows s) _ (to_mail s) (past_mail s) mail_rises (stations_rise 1 s.served))))
+    AllPairs-cons IsBefore (HeaderRow (header_of epoch s)) _
+    (All-weaker (λ row. 0 < part_of (place_of row)) (IsBefore (HeaderRow (header_of epoch s))) (λ row lt. parts_rise place.Header (place_of row) lt)
+    _ (past_header s))
+    (part_then_part 1 (rule_rows s) _ (to_rules s) (past_rules s) rules_rise
+    (part_then_part 2 (radio_rows s) _ (to_radios s) (past_radios s) radios_rise
+    (part_then_part 3 (mail_rows s) _ (to_mail s) (past_mail s) mail_rises (stations_rise 1 s.served))))
 
 pub rows_walk : (epoch : ℕ) (s : State) (n : ℕ) → IsState s → StateInRange s → length (rows_of epoch s) ≤ n → one_by_one (row_after epoch s) place_of n None ≡ rows_of epoch s
 rows_walk epoch s n is ranges le = all_one_by_one place_cmp places_total place_of (rows_of epoch s) n (rows_rise epoch s is ranges) le

@@ -10,6 +10,7 @@ use Rattle.std.specs.FinMap as map
 use Rattle.std.specs.FinMap.Entries.{below_all, find, is_sorted}
 use Rattle.std.proofs.lemmas.Bool.{eqb-true, ne_eqb}
 use Rattle.std.proofs.lemmas.List.Elements.{All-head, All-tail}
+use Rattle.base.proofs.Bools.{first_true, second_true, and_is_true}
 use Rattle.identity.specs.Number.{number}
 use Rattle.identity.specs.Path.{Path, path_cmp, id_path}
 use Rattle.identity.specs.Inside.PathLaws.{paths_total, id_path-number, tied}
@@ -28,8 +29,6 @@ use Rattle.centre_core.specs.StateRanges.{AllEntries, AttachmentInRange}
 use Rattle.centre_core.proofs.EntriesLaws.{insert_all}
 use Rattle.image_rows.specs.Rows.{Group, GroupInRange, RadioRow, group_of, groups_of, radio_row}
 use Rattle.image_rows.specs.Loading.{with_attachments, attachment_in}
-use Rattle.identity.proofs.NumberText.{and_left as left, and_right as right}
-use Rattle.image_rows.proofs.Order.{both}
 use Rattle.image_rows.proofs.Groups.{within_one, length_groups}
 
 -- the radio's groups as attachments
@@ -38,11 +37,11 @@ own itsi gs = each (attachment_in itsi) gs
 
 below_pairs : (itsi a : ℕ) (gs : List Group) → below_all nat_cmp a gs ≡ true → below_all pair_cmp (itsi, a) (each entry_of (own itsi gs)) ≡ true
 below_pairs itsi a [] h = refl
-below_pairs itsi a (g ∷ gs) h = both _ _ (ap is_lt (within_one itsi a g.0) ∙ left _ _ h) (below_pairs itsi a gs (right (is_lt (nat_cmp a g.0)) _ h))
+below_pairs itsi a (g ∷ gs) h = and_is_true _ _ (ap is_lt (within_one itsi a g.0) ∙ first_true _ _ h) (below_pairs itsi a gs (second_true (is_lt (nat_cmp a g.0)) _ h))
 
 pub in_order : (itsi : ℕ) (gs : List Group) → is_sorted nat_cmp gs ≡ true → IsInOrder (own itsi gs)
 in_order itsi [] h = refl
-in_order itsi (g ∷ gs) h = both _ _ (below_pairs itsi g.0 gs (left _ _ h)) (in_order itsi gs (right (below_all nat_cmp g.0 gs) _ h))
+in_order itsi (g ∷ gs) h = and_is_true _ _ (below_pairs itsi g.0 gs (first_true _ _ h)) (in_order itsi gs (second_true (below_all nat_cmp g.0 gs) _ h))
 
 find_other : (itsi : ℕ) (gs : List Group) (q : Pair) → (q.0 == itsi) ≡ false → find pair_cmp q (each entry_of (own itsi gs)) ≡ None
 find_other itsi [] q other = refl
@@ -99,12 +98,15 @@ module _ (m : Attached) (itsi : ℕ) (gs : List Group) (order : is_sorted nat_cm
       ] refl
 
   -- the radio of each attachment is there, with the new one
-  pub known_on : (radios : PathMap Radio) (radio : Radio) → ((k gtsi : ℕ) → IsSome (map.get m (k, gtsi)) → IsSome (map.get radios (id_path k))) → (k gtsi : ℕ) → IsSome (map.get (with_attachments m itsi gs) (k, gtsi)) → IsSome (map.get (map.insert radios (id_path itsi) radio) (id_path k))
+  pub known_on : (radios : PathMap Radio) (radio : Radio) → ((k gtsi : ℕ) → IsSome (map.get m (k, gtsi)) → IsSome (map.get radios (id_path k))) →
+      (k gtsi : ℕ) → IsSome (map.get (with_attachments m itsi gs) (k, gtsi)) → IsSome (map.get (map.insert radios (id_path itsi) radio) (id_path k))
   known_on radios radio known k gtsi there =
       subst (λ (o : Option Radio). IsSome o) (sym (map.get-insert paths_total radios (id_path itsi) radio (id_path k)))
       (elim (k == itsi) as (λ b. (k == itsi) ≡ b → IsSome (cond (eq_by_cmp path_cmp (id_path k) (id_path itsi)) (Some radio) (map.get radios (id_path k)))) [
-        | true ↦ λ same. subst (λ b. IsSome (cond b (Some radio) (map.get radios (id_path k)))) (sym (ap (λ n. eq_by_cmp path_cmp (id_path n) (id_path itsi)) (eqb-true k itsi same) ∙ tied (id_path itsi))) refl
-        | false ↦ λ other. some_anyway (eq_by_cmp path_cmp (id_path k) (id_path itsi)) (map.get radios (id_path k)) (known k gtsi (subst (λ (o : Option Usage). IsSome o) (get_other (k, gtsi) other) there))
+        | true ↦ λ same. subst (λ b. IsSome (cond b (Some radio) (map.get radios (id_path k))))
+            (sym (ap (λ n. eq_by_cmp path_cmp (id_path n) (id_path itsi)) (eqb-true k itsi same) ∙ tied (id_path itsi))) refl
+        | false ↦ λ other. some_anyway (eq_by_cmp path_cmp (id_path k) (id_path itsi)) (map.get radios (id_path k))
+            (known k gtsi (subst (λ (o : Option Usage). IsSome o) (get_other (k, gtsi) other) there))
       ] refl)
     where
       some_anyway : (b : Bool) (o : Option Radio) → IsSome o → IsSome (cond b (Some radio) o)
@@ -112,14 +114,17 @@ module _ (m : Attached) (itsi : ℕ) (gs : List Group) (order : is_sorted nat_cm
       some_anyway false o some = some
 
   -- the rows of the radios before it are the same
-  pub rows_before : (es : List (Path × Radio)) → All (λ e. length e.0 ≡ 48) es → list_all (λ e. is_lt (path_cmp e.0 (id_path itsi))) es ≡ true → each (radio_row (with_attachments m itsi gs)) es ≡ each (radio_row m) es
+  pub rows_before : (es : List (Path × Radio)) → All (λ e. length e.0 ≡ 48) es → list_all (λ e. is_lt (path_cmp e.0 (id_path itsi))) es ≡ true →
+      each (radio_row (with_attachments m itsi gs)) es ≡ each (radio_row m) es
   rows_before [] whole below = refl
   rows_before (e ∷ es) whole below =
       let bits : id_path (number e.0) ≡ e.0 = id_path-number e.0 (All-head (λ e. length e.0 ≡ 48) e es whole) in
       let other : (number e.0 == itsi) ≡ false =
-      ne_eqb (number e.0) itsi (λ same. not_both (path_cmp (id_path itsi) (id_path itsi)) (ap (λ p. is_lt (path_cmp p (id_path itsi))) (ap id_path (sym same) ∙ bits) ∙ left _ _ below) (tied (id_path itsi))) in
+      ne_eqb (number e.0) itsi
+      (λ same. not_both (path_cmp (id_path itsi) (id_path itsi)) (ap (λ p. is_lt (path_cmp p (id_path itsi))) (ap id_path (sym same) ∙ bits) ∙
+      first_true _ _ below) (tied (id_path itsi))) in
       let first : radio_row (with_attachments m itsi gs) e ≡ radio_row m e = ap (λ (n : Attached). RadioRow (number e.0) e.1 (each group_of (map.entries n))) (others_on (number e.0) other) in
-      λ i. first i ∷ rows_before es (All-tail (λ e. length e.0 ≡ 48) e es whole) (right (is_lt (path_cmp e.0 (id_path itsi))) _ below) i
+      λ i. first i ∷ rows_before es (All-tail (λ e. length e.0 ≡ 48) e es whole) (second_true (is_lt (path_cmp e.0 (id_path itsi))) _ below) i
     where
       not_both : (r : Ordering) → is_lt r ≡ true → is_eq r ≡ true → ⊥
       not_both Less h k = cc

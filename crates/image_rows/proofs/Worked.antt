@@ -28,7 +28,8 @@ use Rattle.image_rows.proofs.Stations.{blanks, free_blanks, none_in_blanks}
 pub empty_image : (epoch : ℕ) (limits : Limits) → rows_of epoch (empty limits) ≡ HeaderRow (bare epoch) ∷ []
 empty_image epoch limits =
     (λ i. HeaderRow (record { epoch = epoch; count = 0; rules = map.len-empty path_cmp Rule i; radios = map.len-empty path_cmp Radio i; mail = 0; served = none_in_blanks limits.stations i })
-    ∷ (each rule_row (entries-empty {X = Rule} path_cmp i) ++ (each (radio_row no_groups) (entries-empty {X = Radio} path_cmp i) ++ no_rows 1 (blanks limits.stations) (free_blanks limits.stations) i)))
+    ∷ (each rule_row (entries-empty {X = Rule} path_cmp i) ++
+    (each (radio_row no_groups) (entries-empty {X = Radio} path_cmp i) ++ no_rows 1 (blanks limits.stations) (free_blanks limits.stations) i)))
 
 -- of epoch 1, in bytes
 pub new_image : (limits : Limits) → sectors_of 1 (empty limits) ≡ padded new_header ∷ []
@@ -52,7 +53,8 @@ worked_image epoch limits prefix rule itsi radio gtsi usage item last fits =
     let gs : List Group = (gtsi, usage) ∷ [] in
     let groups : Attached = map.insert map.empty (itsi, gtsi) usage in
     let own : groups_of groups itsi ≡ gs = own_on no_groups itsi gs refl (λ q is. map.get-empty pair_cmp q) in
-    let first : radio_row groups (id_path itsi, radio) ≡ RadioRow itsi radio gs = (λ i. RadioRow (number-id_path itsi fits i) radio (groups_of groups (number-id_path itsi fits i))) ∙ ap (RadioRow itsi radio) own in
+    let first : radio_row groups (id_path itsi, radio) ≡ RadioRow itsi radio gs =
+    (λ i. RadioRow (number-id_path itsi fits i) radio (groups_of groups (number-id_path itsi fits i))) ∙ ap (RadioRow itsi radio) own in
     (λ i. HeaderRow (record { epoch = epoch; count = 2; rules = one_counted paths_total prefix rule i; radios = one_counted paths_total (id_path itsi) radio i; mail = 1; served = 1 })
     ∷ (each rule_row (one_entry paths_total prefix rule i) ++ (each (radio_row groups) (one_entry paths_total (id_path itsi) radio i) ++ (MailRow item ∷ served_rows 1 (None ∷ Some last ∷ [])))))
     ∙ (λ i. HeaderRow (record { epoch = epoch; count = 2; rules = 1; radios = 1; mail = 1; served = 1 }) ∷ rule_row (prefix, rule) ∷ first i ∷ MailRow item ∷ served_rows 1 (None ∷ Some last ∷ []))

@@ -13,9 +13,9 @@ use Rattle.prefix_tree.specs.Table.{PathMap, longest, longest_below, IsLongest, 
 use Rattle.leaf_tests.specs.PrefixList.{map_of, IsInOrder}
 use Rattle.std.specs.FinMap.Entries.{below_all}
 use Rattle.std.proofs.lemmas.List.{reverse-append, length-take-le}
+use Rattle.base.proofs.Bools.{is_less, first_true, second_true}
 use Rattle.prefix_tree.proofs.Longest.{begins-take, begins-length}
-use Rattle.prefix_tree.proofs.Order.{less_of}
-use Rattle.leaf_tests.proofs.Places.{get_of, left_of, right_of, equal_self, equal_not_less, greater_not_less}
+use Rattle.leaf_tests.proofs.Places.{get_of, equal_self, equal_not_less, greater_not_less}
 
 -- of two beginnings of one path the earlier is the shorter
 shorter_first : (p r q : Path) → begins p q ≡ true → begins r q ≡ true → path_cmp p r ≡ Less → length p < length r
@@ -57,20 +57,23 @@ module _ {V : Type 0} where
   after x [] p v all found = cc
   after x (e ∷ es) p v all found =
       elim (eq_by_cmp path_cmp p e.0) as (λ b. eq_by_cmp path_cmp p e.0 ≡ b → cond b (Some e.1) (map.find path_cmp p es) ≡ Some v → path_cmp x p ≡ Less) [
-        | true ↦ λ t f. subst (λ z. path_cmp x z ≡ Less) (sym (tie_exact p e.0 t)) (less_of _ (left_of _ _ all))
-        | false ↦ λ t f. after x es p v (right_of _ _ all) f
+        | true ↦ λ t f. subst (λ z. path_cmp x z ≡ Less) (sym (tie_exact p e.0 t)) (is_less _ (first_true _ _ all))
+        | false ↦ λ t f. after x es p v (second_true _ _ all) f
       ] refl found
 
   find_apart : (p : Path) (e : Path × V) (es : List (Path × V)) (o : Option V) → (p ≡ e.0 → ⊥) → map.find path_cmp p es ≡ o → map.find path_cmp p (e ∷ es) ≡ o
   find_apart p e es o differ is = rw (apart p e.0 differ) is
 
-  with_first : (e : Path × V) (es : List (Path × V)) (q : Path) (r : Option (Path × V)) → below_all path_cmp e.0 es ≡ true → HasLongest es q r → HasLongest (e ∷ es) q (option_or r (cond (begins e.0 q) (Some e) None))
+  with_first : (e : Path × V) (es : List (Path × V)) (q : Path) (r : Option (Path × V)) → below_all path_cmp e.0 es ≡ true → HasLongest es q r →
+      HasLongest (e ∷ es) q (option_or r (cond (begins e.0 q) (Some e) None))
   with_first e es q (Some f) all h =
       let less = after e.0 es f.0 f.1 all h.is_in in
       record {
         begins_it = h.begins_it;
         is_in = find_apart f.0 e es _ (less_is_apart e.0 f.0 less) h.is_in;
-        longer = λ p begun more. find_apart p e es _ (λ same. let shorter = shorter_first e.0 f.0 q (subst (λ z. begins z q ≡ true) same begun) h.begins_it less in omega (arith, ap length same)) (h.longer p begun more);
+        longer = λ p begun more.
+            find_apart p e es _ (λ same. let shorter = shorter_first e.0 f.0 q (subst (λ z. begins z q ≡ true) same begun) h.begins_it less in
+            omega (arith, ap length same)) (h.longer p begun more);
       }
   with_first e es q None all h =
       elim (begins e.0 q) as (λ b. begins e.0 q ≡ b → HasLongest (e ∷ es) q (cond b (Some e) None)) [
@@ -95,7 +98,7 @@ module _ {V : Type 0} where
 
   last_is_longest : (es : List (Path × V)) (q : Path) → IsInOrder es → HasLongest es q (last_of es q)
   last_is_longest [] q order = λ p begun. refl
-  last_is_longest (e ∷ es) q order = with_first e es q (last_of es q) (left_of _ _ order) (last_is_longest es q (right_of _ _ order))
+  last_is_longest (e ∷ es) q order = with_first e es q (last_of es q) (first_true _ _ order) (last_is_longest es q (second_true _ _ order))
 
   below_suc : (m : PathMap V) (q : Path) (n k : ℕ) → k ≡ suc n → longest_below m q k ≡ option_or (option_map (λ v. (take n q, v)) (map.get m (take n q))) (longest_below m q n)
   unfolding longest_below

@@ -1,6 +1,6 @@
 -- Where a prefix is in a list of entries in order, or would go, and what an edit there makes of the map.
 use Rattle.std.proofs.Common.{◌≡◌, ℕ, zero, suc, ◌<◌, ◌≤◌, Bool, true, false, List, [], ◌∷◌, length, get_or, set, Some, None, Result, Ok, Err, refl, sym, ap, ◌∙◌, subst, arith}
-use Rattle.std.specs.Prelude.{IfOk, ◌&&◌}
+use Rattle.std.specs.Prelude.{IfOk}
 use Rattle.std.specs.declared.cmp.Ordering.{Ordering}
 use Rattle.std.specs.declared.cmp.Ordering.TheVariants.{Less, Equal, Greater}
 use Rattle.std.specs.Ordering.{is_eq, ordering_index, ordering_reverse}
@@ -11,23 +11,12 @@ use lib.Dec.{T}
 use Rattle.std.specs.FinMap as map
 use Rattle.std.specs.FinMap.{find, put}
 use Rattle.std.specs.FinMap.Entries.{below_all, is_sorted-put}
+use Rattle.base.proofs.Bools.{first_true, second_true, is_less}
+use Rattle.base.proofs.Numbers.{at_most_two}
 use Rattle.identity.specs.Path.{Path, path_cmp}
 use Rattle.identity.specs.Inside.PathLaws.{paths_total, paths_exact, tied}
 use Rattle.prefix_tree.specs.Table.{PathMap}
-use Rattle.prefix_tree.proofs.Order.{less_of}
 use Rattle.leaf_tests.specs.PrefixList.{map_of, IsInOrder}
-
-pub left_of : (a b : Bool) → (a && b) ≡ true → a ≡ true
-left_of true b e = refl
-left_of false b e = absurd (false≢true e)
-
-pub right_of : (a b : Bool) → (a && b) ≡ true → b ≡ true
-right_of true b e = e
-right_of false b e = absurd (false≢true e)
-
-pub both : (a b : Bool) → a ≡ true → b ≡ true → (a && b) ≡ true
-both true b p q = q
-both false b p q = absurd (false≢true p)
 
 pub equal_not_less : Equal ≡ Less → ⊥
 equal_not_less e = cc
@@ -45,11 +34,6 @@ equal_self p = elim (path_cmp p p) as (λ o. path_cmp p p ≡ o → is_eq o ≡ 
   | Equal ↦ λ e t. refl
   | Greater ↦ λ e t. absurd (false≢true t)
 ] refl (tied p)
-
-at_most_two : (o : Ordering) → ordering_index o ≤ 2
-at_most_two Less = omega arith
-at_most_two Equal = omega arith
-at_most_two Greater = omega arith
 
 -- the earlier of two prefixes compares no higher with q
 earlier : (x y q : Path) → path_cmp x y ≡ Less → ordering_index (path_cmp x q) ≤ ordering_index (path_cmp y q)
@@ -81,24 +65,24 @@ module _ {V : Type 0} where
 
   below_at : (x : Path) (es : List (Path × V)) (i : ℕ) (d : Path × V) → below_all path_cmp x es ≡ true → i < length es → path_cmp x (get_or es i d).0 ≡ Less
   below_at x [] i d all lt = absurd (omega arith)
-  below_at x (e ∷ es) zero d all lt = less_of _ (left_of _ _ all)
-  below_at x (e ∷ es) (suc i) d all lt = below_at x es i d (right_of _ _ all) (omega arith)
+  below_at x (e ∷ es) zero d all lt = is_less _ (first_true _ _ all)
+  below_at x (e ∷ es) (suc i) d all lt = below_at x es i d (second_true _ _ all) (omega arith)
 
   -- an earlier entry's prefix comes before a later one's
   pub rising : (es : List (Path × V)) (i j : ℕ) (d : Path × V) → IsInOrder es → i < j → j < length es → path_cmp (get_or es i d).0 (get_or es j d).0 ≡ Less
   rising [] i j d order lt in_range = absurd (omega arith)
   rising (e ∷ es) zero zero d order lt in_range = absurd (omega arith)
   rising (e ∷ es) (suc i) zero d order lt in_range = absurd (omega arith)
-  rising (e ∷ es) zero (suc j) d order lt in_range = below_at e.0 es j d (left_of _ _ order) (omega arith)
-  rising (e ∷ es) (suc i) (suc j) d order lt in_range = rising es i j d (right_of _ _ order) (omega arith) (omega arith)
+  rising (e ∷ es) zero (suc j) d order lt in_range = below_at e.0 es j d (first_true _ _ order) (omega arith)
+  rising (e ∷ es) (suc i) (suc j) d order lt in_range = rising es i j d (second_true _ _ order) (omega arith) (omega arith)
 
   -- the comparisons with q rise along the list, as a binary search asks
   comparisons_rise : (es : List (Path × V)) (q : Path) → IsInOrder es → IsNonDecreasingBy (λ e. ordering_index (path_cmp e.0 q)) es
   comparisons_rise [] q order i j d le in_range = absurd (omega arith)
   comparisons_rise (e ∷ es) q order zero zero d le in_range = omega arith
   comparisons_rise (e ∷ es) q order (suc i) zero d le in_range = absurd (omega arith)
-  comparisons_rise (e ∷ es) q order zero (suc j) d le in_range = earlier _ _ q (below_at e.0 es j d (left_of _ _ order) (omega arith))
-  comparisons_rise (e ∷ es) q order (suc i) (suc j) d le in_range = comparisons_rise es q (right_of _ _ order) i j d (omega arith) (omega arith)
+  comparisons_rise (e ∷ es) q order zero (suc j) d le in_range = earlier _ _ q (below_at e.0 es j d (first_true _ _ order) (omega arith))
+  comparisons_rise (e ∷ es) q order (suc i) (suc j) d le in_range = comparisons_rise es q (second_true _ _ order) i j d (omega arith) (omega arith)
 
   -- a search in the list l, which is es, ends where q is or at the gap for it
   pub found_at : (es l : List (Path × V)) (q : Path) (i : ℕ) → l ≡ es → i < length l → HoldsAt (λ e. path_cmp e.0 q ≡ Equal) l i → IsAt es q i
@@ -137,12 +121,12 @@ module _ {V : Type 0} where
   find_at : (es : List (Path × V)) (q : Path) (i : ℕ) (d : Path × V) → IsInOrder es → IsAt es q i → find path_cmp q es ≡ Some (get_or es i d).1
   find_at [] q i d order h = absurd (omega (arith, h.in_range))
   find_at (e ∷ es) q zero d order h = rw (h.here d, equal_self q)
-  find_at (e ∷ es) q (suc i) d order h = rw (head_before e es q i order h) (find_at es q i d (right_of _ _ order) (tail_at h))
+  find_at (e ∷ es) q (suc i) d order h = rw (head_before e es q i order h) (find_at es q i d (second_true _ _ order) (tail_at h))
 
   put_at : (es : List (Path × V)) (q : Path) (i : ℕ) (v : V) → IsInOrder es → IsAt es q i → put path_cmp q v es ≡ set es i (q, v)
   put_at [] q i v order h = absurd (omega (arith, h.in_range))
   put_at (e ∷ es) q zero v order h = rw (h.here e, equal_self q) refl
-  put_at (e ∷ es) q (suc i) v order h = rw (head_before e es q i order h) (ap (λ r. e ∷ r) (put_at es q i v (right_of _ _ order) (tail_at h)))
+  put_at (e ∷ es) q (suc i) v order h = rw (head_before e es q i order h) (ap (λ r. e ∷ r) (put_at es q i v (second_true _ _ order) (tail_at h)))
 
   find_gap : (es : List (Path × V)) (q : Path) (i : ℕ) → IsGap es q i → find path_cmp q es ≡ None
   find_gap [] q i h = refl
@@ -187,7 +171,8 @@ module _ {V : Type 0} where
   pub set_in_order : (es : List (Path × V)) (q : Path) (i : ℕ) (x : Path × V) (w : V) → IsInOrder es → IsAt es q i → x ≡ get_or es i x → IsInOrder (set es i (x.0, w))
   set_in_order es q i x w order at read = put_in_order es _ q w order (set_is es q i x w w order at read refl)
 
-  pub set_is_insert : (es : List (Path × V)) (m : PathMap V) (q : Path) (i : ℕ) (x : Path × V) (v w : V) → map_of es ≡ m → IsInOrder es → IsAt es q i → x ≡ get_or es i x → w ≡ v → map_of (set es i (x.0, w)) ≡ map.insert m q v
+  pub set_is_insert : (es : List (Path × V)) (m : PathMap V) (q : Path) (i : ℕ) (x : Path × V) (v w : V) → map_of es ≡ m → IsInOrder es →
+      IsAt es q i → x ≡ get_or es i x → w ≡ v → map_of (set es i (x.0, w)) ≡ map.insert m q v
   set_is_insert es m q i x v w seen order at read same = put_is_insert es _ m q v seen order (set_is es q i x v w order at read same)
 
   pub new_in_order : (es new : List (Path × V)) (q : Path) (i : ℕ) (v : V) → IsInOrder es → IsGap es q i → new ≡ insert es i (q, v) → IsInOrder new

@@ -7,8 +7,9 @@ ghost use Rattle.std.specs.FinMap as map;
 ghost use Rattle.identity.specs.Path.{path_cmp, id_path, begins};
 ghost use Rattle.prefix_tree.specs.Table.{longest};
 
+use base::TryCopy;
 use identity::Prefix;
-use prefix_tree::{TryCopy, prefix_order};
+use prefix_tree::prefix_order;
 use std::alloc::{AllocError, Allocator};
 use std::marker::Model;
 use std::mem;

@@ -2,9 +2,9 @@
 
 use crate::list::PrefixList;
 use crate::trees::number::Number;
+use base::TryCopy;
 use identity::Prefix;
 use linked_list_allocator::LocalHeap;
-use prefix_tree::TryCopy;
 use std::alloc::Global;
 use std::test::Fail;
 

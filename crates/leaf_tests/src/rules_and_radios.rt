@@ -1,10 +1,10 @@
 //! A registry in small heaps, and the values in it. What its calls answer is tested by the program's rows, in
 //! tests/program/rows.
 
+use base::TryCopy;
 use identity::{Itsi, Prefix};
 use linked_list_allocator::LocalHeap;
 use mm_pdus::{Lifetime, LocationUpdateType};
-use prefix_tree::TryCopy;
 use registration::{Limits, LocationArea, Radio, RegFault, Registry, Rule, Station};
 use std::alloc::{AllocError, Global};
 use std::test::Fail;

@@ -1,6 +1,5 @@
 //! Runs of the disks, and what a stop leaves.
 
-use sector_disk::example::write_in_order;
 use sector_disk::{Disk, DiskError, Failing, FailingDisk, MemoryDisk};
 use std::alloc::{AllocError, Global};
 use std::test::Fail;
@@ -351,11 +350,19 @@ fn are_bytes<D: Disk>(disk: &mut D, want: [u8; 3]) -> bool {
     byte_of(disk, 0) == Ok(first) && byte_of(disk, 1) == Ok(second) && byte_of(disk, 2) == Ok(third)
 }
 
+/// Writes two sectors, and the third only once no stop can undo these two.
+fn write_in_order<D: Disk>(disk: &mut D) -> Result<(), DiskError> {
+    disk.write(0, &[1; 512])?;
+    disk.write(1, &[2; 512])?;
+    disk.sync()?;
+    disk.write(2, &[3; 512])
+}
+
 /// Whether three sectors hold these bytes after writing in order and a stop that leaves 9 in each pending sector. The call of
 /// that number fails, and all later ones.
 fn is_in_order(alloc: Global, call: u64, want: [u8; 3]) -> Result<bool, AllocError> {
     let mut disk = FailingDisk::new(MemoryDisk::new(alloc, 3, 20)?, call, Failing::Always);
-    let written = write_in_order(&mut disk, &[1; 512], &[2; 512], &[3; 512]).is_ok();
+    let written = write_in_order(&mut disk).is_ok();
     let mut disk = disk.into_inner().crash(&NINES);
     Ok(written == (call > 4) && are_bytes(&mut disk, want))
 }
@@ -384,7 +391,7 @@ const STILL_DEAD: [Call; 2] = [Call::Read(4, Err(OUT)), Call::Failures(u64::MAX)
 fn is_dead<D: Disk>(disk: &mut D) -> bool {
     are_answered(disk, &DEAD)
         && disk.sectors() > 2
-        && write_in_order(disk, &[1; 512], &[2; 512], &[3; 512]) == Err(FAULT)
+        && write_in_order(disk) == Err(FAULT)
         && are_answered(disk, &STILL_DEAD)
 }
 

@@ -6,6 +6,7 @@ use Rattle.std.specs.Option.{option_map}
 use Rattle.std.proofs.lemmas.List.Sums.{length-filter}
 use Rattle.std.proofs.lemmas.Bool.Decides.{nat_tests}
 use Rattle.std.specs.List.{AllPairs}
+use Rattle.base.proofs.Bools.{and_false}
 use Rattle.prefix_tree.specs.Following.{one_by_one, then_on}
 use Rattle.prefix_tree.proofs.Following.{all_one_by_one}
 use Rattle.mailbox.specs.Numbers.{Number}
@@ -25,10 +26,6 @@ greater_is_enough a b c t le = by (nat_le a c) refl
     by : (p : Bool) → nat_le a c ≡ p → (p && (nat_le b c && t)) ≡ (p && t)
     by false e = refl
     by true e = let yes : nat_le b c ≡ true = grind (arith, nat_tests) in ap (λ q. q && t) yes
-
-and_false : (p : Bool) → (p && false) ≡ false
-and_false false = refl
-and_false true = refl
 
 lesser_is_left_out : (a b c : ℕ) (t : Bool) → a ≤ b → (nat_le a c && (nat_le b c && t)) ≡ (nat_le b c && t)
 lesser_is_left_out a b c t le = by (nat_le b c) refl
@@ -110,7 +107,8 @@ from_first m n ordered le =
     ap (best_kept m.items None) (all_one_by_one named_cmp named_total named m.items n ordered le)
     ∙ greatest (λ w. w.key.destination) (beside m.items) m.items
 
-module _ (m : Mailed) (n left : ℕ) (is_left : left ≡ suc n) (kept : Option (ℕ × ℕ)) (after : Option (Number × Key)) (so_far : best_kept m.items kept (one_by_one (next_item m) named left after) ≡ fullest m.items) where
+module _ (m : Mailed) (n left : ℕ) (is_left : left ≡ suc n) (kept : Option (ℕ × ℕ)) (after : Option (Number × Key))
+    (so_far : best_kept m.items kept (one_by_one (next_item m) named left after) ≡ fullest m.items) where
   opened : best_kept m.items kept (then_on (λ x. one_by_one (next_item m) named n (Some (named x))) (next_item m after)) ≡ fullest m.items
   opened = sym (ap (λ k. best_kept m.items kept (one_by_one (next_item m) named k after)) is_left) ∙ so_far
 

@@ -42,5 +42,6 @@ room_before room xs i x inside here =
 -- what was there before more was put is there still
 pub prefix_with_more : (old more now new : List ℕ) → now ≡ old ++ more → IsPrefixOf now new → IsPrefixOf old new
 prefix_with_more old more now new put prefix =
-    let whole : new ≡ old ++ (more ++ drop (length now) new) = sym (take-append-drop (length now) new) ∙ ap (λ xs. xs ++ drop (length now) new) (prefix ∙ put) ∙ append_assoc old more (drop (length now) new) in
+    let whole : new ≡ old ++ (more ++ drop (length now) new) = sym (take-append-drop (length now) new) ∙
+    ap (λ xs. xs ++ drop (length now) new) (prefix ∙ put) ∙ append_assoc old more (drop (length now) new) in
     ap (λ xs. take (length old) xs) whole ∙ take-append_seam old (more ++ drop (length now) new)

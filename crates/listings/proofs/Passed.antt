@@ -5,10 +5,12 @@ use Rattle.std.specs.List.{All, AllPairs, filter, find}
 use Rattle.std.specs.Cmp.{IsTotalOrder}
 use Rattle.std.specs.Ordering.{is_lt, ordering_reverse}
 use Rattle.std.specs.declared.cmp.Ordering.{Ordering}
-use Rattle.std.specs.declared.cmp.Ordering.TheVariants.{Less, Equal, Greater}
+use Rattle.std.specs.declared.cmp.Ordering.TheVariants.{Less}
 use Rattle.std.proofs.lemmas.Cmp.{tied_itself}
 use Rattle.std.proofs.lemmas.List.Elements.{All-head, All-tail}
 use Rattle.std.proofs.lemmas.List.Sums.{length-filter, count_by-le-length}
+use Rattle.base.proofs.Bools.{is_less, and_turned}
+use Rattle.base.proofs.Lists.{found_all}
 use Rattle.prefix_tree.specs.Following.{is_after, next_of, AreRising}
 use Rattle.mailbox.specs.Numbers.{Number}
 use Rattle.mailbox.specs.declared.key.Key.{Key}
@@ -16,13 +18,6 @@ use Rattle.mailbox.specs.Values.{Item, Mailed}
 use Rattle.mailbox.specs.Order.{IsBefore, named, named_cmp, next_item}
 use Rattle.mailbox.proofs.Keys.{named_total}
 use Rattle.mailbox.proofs.Lists.{pairs_head, pairs_tail}
-use Rattle.listings.proofs.Walks.{found_all}
-
-and_turned : (a b : Bool) → (a && b) ≡ (b && a)
-and_turned true true = refl
-and_turned true false = refl
-and_turned false true = refl
-and_turned false false = refl
 
 module _ {X : Type 0} where
   one_filtered : (p : X → Bool) (b : Bool) (x : X) (ys : List X) → find p (cond b (x ∷ ys) ys) ≡ cond (b && p x) (Some x) (find p ys)
@@ -40,11 +35,6 @@ module _ {X : Type 0} where
   all_kept p (x ∷ xs) all =
       ap (λ b. cond b (x ∷ filter p xs) (filter p xs)) (All-head (λ y. p y ≡ true) x xs all) ∙ ap (λ (ys : List X). x ∷ ys) (all_kept p xs (All-tail (λ y. p y ≡ true) x xs all))
 
-less_is : (o : Ordering) → is_lt o ≡ true → o ≡ Less
-less_is Less e = refl
-less_is Equal e = absurd cc
-less_is Greater e = absurd cc
-
 module _ {K X : Type 0} (cmp : K → K → Ordering) (total : IsTotalOrder cmp) (key : X → K) where
   -- the items after a key
   abbrev pub rest : List X → Option K → List X
@@ -55,7 +45,7 @@ module _ {K X : Type 0} (cmp : K → K → Ordering) (total : IsTotalOrder cmp) 
 
   still_after : (at : Option K) (x y : X) → is_after cmp key at x ≡ true → cmp (key x) (key y) ≡ Less → is_after cmp key at y ≡ true
   still_after None x y here less = refl
-  still_after (Some k) x y here less = ap is_lt (total.trans k (key x) (key y) (less_is (cmp k (key x)) here) less)
+  still_after (Some k) x y here less = ap is_lt (total.trans k (key x) (key y) (is_less (cmp k (key x)) here) less)
 
   -- the next item, and those after it
   pub goes_on : (xs : List X) (at : Option K) (w : X) → AreRising cmp key xs → Some w ≡ next_of cmp key xs at → rest xs at ≡ w ∷ rest xs (Some (key w))
@@ -71,7 +61,8 @@ module _ {K X : Type 0} (cmp : K → K → Ordering) (total : IsTotalOrder cmp) 
           ∙ sym (all_kept (is_after cmp key (Some (key x))) xs (λ i d below. ap is_lt (above i d below)))
           ∙ sym (ap (λ b. cond b (x ∷ rest xs (Some (key x))) (rest xs (Some (key x)))) (ap is_lt (tied_itself total (key x))))
 
-      by : (Some w ≡ next_of cmp key xs at → rest xs at ≡ w ∷ rest xs (Some (key w))) → (b : Bool) → is_after cmp key at x ≡ b → Some w ≡ cond b (Some x) (next_of cmp key xs at) → cond b (x ∷ rest xs at) (rest xs at) ≡ w ∷ rest (x ∷ xs) (Some (key w))
+      by : (Some w ≡ next_of cmp key xs at → rest xs at ≡ w ∷ rest xs (Some (key w))) → (b : Bool) → is_after cmp key at x ≡ b →
+          Some w ≡ cond b (Some x) (next_of cmp key xs at) → cond b (x ∷ rest xs at) (rest xs at) ≡ w ∷ rest (x ∷ xs) (Some (key w))
       by later true here is =
           let same : w ≡ x = ap (λ o. unwrap_or o w) is in
           ap (λ (ys : List X). x ∷ ys) (here_on here) ∙ ap (λ v. v ∷ rest (x ∷ xs) (Some (key v))) (sym same)

@@ -17,7 +17,8 @@ module _ {T : Type 0} (text : T → List ℕ) where
       put ∙ ap (λ l. old ++ flat_map text l) (sym (append-nil done) ∙ ap (λ l. done ++ l) (sym none) ∙ is)
 
   -- there was no room for one of the texts, and so none for all
-  pub none_for_all : (old now : List ℕ) (done rest left all : List T) (x : T) (had has room rooms : ℕ) → now ≡ old ++ flat_map text done → left ≡ x ∷ rest → done ++ left ≡ all → had ≡ length old → has ≡ length now → room ≤ rooms
+  pub none_for_all : (old now : List ℕ) (done rest left all : List T) (x : T) (had has room rooms : ℕ) → now ≡ old ++ flat_map text done →
+      left ≡ x ∷ rest → done ++ left ≡ all → had ≡ length old → has ≡ length now → room ≤ rooms
       → rooms < has + length (text x) → room < had + length (flat_map text all)
   none_for_all old now done rest left all x had has room rooms put next is length_old length_now grown full =
       let whole : length (flat_map text all) ≡ length (flat_map text done) + (length (text x) + length (flat_map text rest)) =

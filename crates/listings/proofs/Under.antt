@@ -91,7 +91,8 @@ module _ {V : Type 0} where
   none_begun : (p : Path) (es : List (Path × V)) → All (λ e. begins p e.0 ≡ false) es → filter (λ e. begins p e.0) es ≡ []
   none_begun p [] none = refl
   none_begun p (e ∷ es) none =
-      ap (λ b. cond b (e ∷ filter (λ e. begins p e.0) es) (filter (λ e. begins p e.0) es)) (All-head (λ e. begins p e.0 ≡ false) e es none) ∙ none_begun p es (All-tail (λ e. begins p e.0 ≡ false) e es none)
+      ap (λ b. cond b (e ∷ filter (λ e. begins p e.0) es) (filter (λ e. begins p e.0) es)) (All-head (λ e. begins p e.0 ≡ false) e es none) ∙
+      none_begun p es (All-tail (λ e. begins p e.0 ≡ false) e es none)
 
   find_if : (late : Path × V → Bool) (b : Bool) (e : Path × V) (es : List (Path × V)) → cond b (cond (late e) (Some e) (find late es)) (find late es) ≡ find late (cond b (e ∷ es) es)
   find_if late true e es = refl
@@ -101,14 +102,17 @@ module _ {V : Type 0} where
     run : (es : List (Path × V)) → AreRising path_cmp (λ e. e.0) es → All (λ e. length e.0 ≡ 48) es → if_under p (find start es) ≡ find late (filter (λ e. begins p e.0) es)
     run [] rise whole = refl
     run (e ∷ es) rise whole =
-        by (begins p e.0) (late e) (start e) refl (starts e (All-head (λ e. length e.0 ≡ 48) e es whole)) (run es (pairs_tail (λ a b. path_cmp a.0 b.0 ≡ Less) e es rise) (All-tail (λ e. length e.0 ≡ 48) e es whole))
+        by (begins p e.0) (late e) (start e) refl (starts e (All-head (λ e. length e.0 ≡ 48) e es whole))
+        (run es (pairs_tail (λ a b. path_cmp a.0 b.0 ≡ Less) e es rise) (All-tail (λ e. length e.0 ≡ 48) e es whole))
         ∙ find_if late (begins p e.0) e (filter (λ e. begins p e.0) es)
       where
         -- where the entry is beyond, all later ones are
         no_more : begins p e.0 ≡ false → (begins p e.0 || is_beyond p e.0) ≡ true → find late (filter (λ e. begins p e.0) es) ≡ None
         no_more off so =
             let here : is_beyond p e.0 ≡ true = ap (λ b. b || is_beyond p e.0) (sym off) ∙ so in
-            ap (find late) (none_begun p es (All-weaker (λ f. path_cmp e.0 f.0 ≡ Less) (λ f. begins p f.0 ≡ false) (λ f less. not_begun p f.0 (later_beyond p e.0 f.0 here less)) es (pairs_head (λ a b. path_cmp a.0 b.0 ≡ Less) e es rise)))
+            ap (find late) (none_begun p es
+            (All-weaker (λ f. path_cmp e.0 f.0 ≡ Less) (λ f. begins p f.0 ≡ false) (λ f less. not_begun p f.0 (later_beyond p e.0 f.0 here less)) es
+            (pairs_head (λ a b. path_cmp a.0 b.0 ≡ Less) e es rise)))
 
         by : (b l s : Bool) → begins p e.0 ≡ b → s ≡ (l && (begins p e.0 || is_beyond p e.0)) → if_under p (find start es) ≡ find late (filter (λ e. begins p e.0) es)
             → if_under p (cond s (Some e) (find start es)) ≡ cond b (cond l (Some e) (find late (filter (λ e. begins p e.0) es))) (find late (filter (λ e. begins p e.0) es))
@@ -130,7 +134,9 @@ module _ {V : Type 0} where
   next_under p after from es short small from_small past rise whole =
       run p (is_after path_cmp (λ e. e.0) (option_map id_path after)) (is_after path_cmp (λ e. e.0) (option_map id_path from)) starts es rise whole
     where
-      starts : (e : Path × V) → length e.0 ≡ 48 → is_after path_cmp (λ e. e.0) (option_map id_path from) e ≡ (is_after path_cmp (λ e. e.0) (option_map id_path after) e && (begins p e.0 || is_beyond p e.0))
+      starts : (e : Path × V) → length e.0 ≡ 48 →
+          is_after path_cmp (λ e. e.0) (option_map id_path from) e ≡
+          (is_after path_cmp (λ e. e.0) (option_map id_path after) e && (begins p e.0 || is_beyond p e.0))
       starts e is =
           past_number from e from_small is ∙ past (number e.0)
           ∙ ap (λ b. b && nat_le (left_aligned p) (number e.0)) (sym (past_number after e small is))

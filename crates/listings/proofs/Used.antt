@@ -1,6 +1,6 @@
 -- The text of what is used of each limit, part by part.
 use Rattle.std.proofs.Common.{◌≡◌, ℕ, ◌<◌, ◌≤◌, ◌^◌, List, [], ◌++◌, length, ◌∙◌, append_assoc, length-append, arith}
-use Rattle.std.specs.Prelude.{codes, decimal, count_by, Result, Ok, Err, OnOk}
+use Rattle.std.specs.Prelude.{codes, decimal, count_by}
 use Rattle.std.proofs.lemmas.List.{append-nil}
 use Rattle.std.specs.Option.{is_some}
 use Rattle.std.specs.FinMap as map
@@ -32,11 +32,6 @@ parts_fit a b c d e f g h la lb lc ld le lf lg lh =
     let fg = decimal_fits g lg in
     let fh = decimal_fits h lh in
     simp length-append (omega arith)
-
--- what follows from a call's success
-pub then_ok : {T E P Q : Type 0} (r : Result T E) → OnOk r P → (P → Q) → OnOk r Q
-then_ok (Ok x) p follows = follows p
-then_ok (Err e) p follows = tt
 
 parts_are_whole : (a b c d e f g h : ℕ) → parts a b c d e f g h ≡ whole a b c d e f g h
 parts_are_whole a b c d e f g h = simp (append_assoc, append-nil)

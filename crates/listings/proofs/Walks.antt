@@ -1,15 +1,16 @@
 -- The entries found one after another are the entries of a table.
-use Rattle.std.proofs.Common.{◌≡◌, ℕ, zero, suc, ◌+◌, ◌-◌, ◌<◌, ◌≤◌, Bool, true, false, cond, List, [], ◌∷◌, length, Option, Some, None, refl, sym, ap, ◌∙◌, subst, arith}
+use Rattle.std.proofs.Common.{◌≡◌, ℕ, zero, suc, ◌+◌, ◌-◌, ◌<◌, ◌≤◌, List, [], ◌∷◌, length, Option, Some, None, refl, sym, ap, ◌∙◌, subst, arith}
 use Rattle.std.specs.Prelude.{IfSome, map as each, option_map}
-use Rattle.std.specs.List.{All, filter, find}
+use Rattle.std.specs.List.{All, filter}
 use Rattle.std.specs.Cmp.{IsTotalOrder}
 use Rattle.std.specs.FinMap as map
 use Rattle.std.specs.declared.cmp.Ordering.{Ordering}
 use Rattle.std.specs.declared.cmp.Ordering.TheVariants.{Less}
 use Rattle.std.proofs.lemmas.List.{length-map}
-use Rattle.std.proofs.lemmas.List.Elements.{All-filter, All-head, All-tail}
+use Rattle.std.proofs.lemmas.List.Elements.{All-filter}
 use Rattle.std.proofs.lemmas.List.Kept.{AllPairs-filter}
 use Rattle.std.proofs.lemmas.List.Sums.{length-filter, count_by-le-length}
+use Rattle.base.proofs.Lists.{found_all}
 use Rattle.identity.specs.Path.{Path, path_cmp}
 use Rattle.identity.specs.Inside.PathLaws.{id_path-number, paths_total}
 use Rattle.prefix_tree.specs.Following.{next_of, is_after, AreRising, then_on, one_by_one}
@@ -26,14 +27,6 @@ use Rattle.listings.specs.declared.walk.Place.{Place}
 use Rattle.listings.specs.Entries.{Entry, ItemEntry, is_under, rule_entry, radio_entry, waits_at, entries_of}
 use Rattle.listings.specs.Inside.Walking.{entry_after, place_of}
 use Rattle.listings.proofs.Under.{all_under}
-
-pub found_all : {X : Type 0} (P : X → Type 0) (test : X → Bool) (xs : List X) → All P xs → IfSome (find test xs) P
-found_all P test [] all = tt
-found_all P test (x ∷ xs) all = by (test x) (found_all P test xs (All-tail P x xs all))
-  where
-    by : (b : Bool) → IfSome (find test xs) P → IfSome (cond b (Some x) (find test xs)) P
-    by true rest = All-head P x xs all
-    by false rest = rest
 
 -- a walk over the items of a list, each of which is shown by f and found again by its place
 module _ {K X P Y : Type 0} (cmp : K → K → Ordering) (key : X → K) (xs : List X) (Is : X → Type 0) (f : X → Y) (place : Y → P) (next : Option P → Option Y) where
@@ -74,7 +67,8 @@ module _ (s : State) (state : IsState s) (ranges : StateInRange s) where
   pub entries_walk : (table : Table) (n : ℕ) → length (entries_of s table) ≤ n → one_by_one (entry_after s table) place_of n None ≡ entries_of s table
   entries_walk table.Rules n le =
       let es = map.entries s.registered.rules in
-      all_shown path_cmp (λ e. e.0) es Any rule_entry place_of (entry_after s table.Rules) (any_each es) (λ e any. refl) paths_total (sorted_rise path_cmp es (map.entries_sorted s.registered.rules)) refl n le
+      all_shown path_cmp (λ e. e.0) es Any rule_entry place_of (entry_after s table.Rules) (any_each es) (λ e any. refl) paths_total
+      (sorted_rise path_cmp es (map.entries_sorted s.registered.rules)) refl n le
   entries_walk (table.Radios prefix) n le =
       let all = map.entries s.registered.radios in
       let es = filter (λ e. is_under prefix e.0) all in
@@ -84,11 +78,13 @@ module _ (s : State) (state : IsState s) (ranges : StateInRange s) where
       all_shown named_cmp named s.mail.items Any ItemEntry place_of (entry_after s table.Items) (any_each s.mail.items) (λ w any. refl) named_total state.mail.in_order.ordered refl n le
   entries_walk (table.Due moment) n le =
       let ws = filter (is_expired moment) s.mail.items in
-      all_shown named_cmp named ws Any ItemEntry place_of (entry_after s (table.Due moment)) (any_each ws) (λ w any. refl) named_total (AllPairs-filter IsBefore (is_expired moment) s.mail.items state.mail.in_order.ordered) refl n le
+      all_shown named_cmp named ws Any ItemEntry place_of (entry_after s (table.Due moment)) (any_each ws) (λ w any. refl) named_total
+      (AllPairs-filter IsBefore (is_expired moment) s.mail.items state.mail.in_order.ordered) refl n le
   entries_walk (table.WaitingAt station) n le =
       let waits = waits_at s.registered station in
       let ws = filter waits s.mail.items in
-      all_shown named_cmp named ws Any ItemEntry place_of (entry_after s (table.WaitingAt station)) (any_each ws) (λ w any. refl) named_total (AllPairs-filter IsBefore waits s.mail.items state.mail.in_order.ordered) refl n le
+      all_shown named_cmp named ws Any ItemEntry place_of (entry_after s (table.WaitingAt station)) (any_each ws) (λ w any. refl) named_total
+      (AllPairs-filter IsBefore waits s.mail.items state.mail.in_order.ordered) refl n le
 
 -- ---- how many entries there are in all
 

@@ -34,7 +34,8 @@ get_with boxes p [] q = get-remove paths_total boxes p q
 get_with boxes p (w ∷ ws) q = get-insert paths_total boxes p (w ∷ ws) q
 
 -- a box of the new boxes, at the path that was written and elsewhere
-by_path : (p q : Path) (b : Bool) (new old : Option (List Item)) (want : Path → Option (List Item)) → eq_by_cmp path_cmp q p ≡ b → new ≡ want p → (eq_by_cmp path_cmp q p ≡ false → old ≡ want q) → cond b new old ≡ want q
+by_path : (p q : Path) (b : Bool) (new old : Option (List Item)) (want : Path → Option (List Item)) → eq_by_cmp path_cmp q p ≡ b → new ≡ want p →
+    (eq_by_cmp path_cmp q p ≡ false → old ≡ want q) → cond b new old ≡ want q
 by_path p q true new old want e here elsewhere = here ∙ ap want (sym (tie_exact q p e))
 by_path p q false new old want e here elsewhere = elsewhere e
 
@@ -81,11 +82,6 @@ module _ (ws : List Item) (boxes : Boxes) (boxed : IsBoxed ws boxes) where
       ∙ by_path p q (eq_by_cmp path_cmp q p) _ _ (λ z. box_of (filter (is_under z) (put_last ws w))) refl (ap box_of (put_here w))
       (λ other. boxed q ∙ ap box_of (put_elsewhere w q other))
 
--- what the code writes is one of these changes
-pub never_empty : (boxes : Boxes) (p : Path) (ws : List Item) (w : Item) → with_items boxes p (ws ++ w ∷ []) ≡ finite.insert boxes p (ws ++ w ∷ [])
-never_empty boxes p [] w = refl
-never_empty boxes p (o ∷ ws) w = refl
-
 unless_there : (b : Bool) (x y : Option (List Item)) → (b ≡ true → y ≡ x) → cond b x y ≡ y
 unless_there true x y h = sym (h refl)
 unless_there false x y h = refl
@@ -113,10 +109,12 @@ pub by_answer : {A G : Type 0} {B C : A → Type 0} → ((a : A) × B a × C a) 
 by_answer made use_it = use_it made.0 made.1 made.2
 
 -- a closure writes the box, or leaves it as it was where it fails
-pub written : {X E : Type 0} (r : Result X E) (boxes new : Boxes) (p : Path) (left : Option (List Item)) (ws : List Item) → new ≡ with_value boxes p left → OnOk r (left ≡ Some ws) → OnOk r (new ≡ finite.insert boxes p ws)
+pub written : {X E : Type 0} (r : Result X E) (boxes new : Boxes) (p : Path) (left : Option (List Item)) (ws : List Item) →
+    new ≡ with_value boxes p left → OnOk r (left ≡ Some ws) → OnOk r (new ≡ finite.insert boxes p ws)
 written (Ok x) boxes new p left ws is made = is ∙ ap (with_value boxes p) made
 written (Err e) boxes new p left ws is made = tt
 
-pub unwritten : {X E : Type 0} (r : Result X E) (boxes new : Boxes) (p : Path) (left : Option (List Item)) (ws : List Item) → new ≡ with_value boxes p left → finite.get boxes p ≡ Some ws → OnErr r (left ≡ Some ws) → OnErr r (new ≡ boxes)
+pub unwritten : {X E : Type 0} (r : Result X E) (boxes new : Boxes) (p : Path) (left : Option (List Item)) (ws : List Item) →
+    new ≡ with_value boxes p left → finite.get boxes p ≡ Some ws → OnErr r (left ≡ Some ws) → OnErr r (new ≡ boxes)
 unwritten (Ok x) boxes new p left ws is there same = tt
 unwritten (Err e) boxes new p left ws is there same = is ∙ ap (with_value boxes p) same ∙ written_again boxes p ws (sym there)

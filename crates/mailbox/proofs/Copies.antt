@@ -1,5 +1,5 @@
 -- The copies of a message to a group: their keys differ, they come in order, and what puts them can be undone.
-use Rattle.std.proofs.Common.{◌≡◌, ℕ, zero, suc, ◌+◌, ◌<◌, Bool, true, false, List, [], ◌∷◌, ◌++◌, length, get_or, map, take, refl, ap, sym, ◌∙◌, subst, arith, append_assoc}
+use Rattle.std.proofs.Common.{◌≡◌, ℕ, zero, suc, ◌+◌, ◌<◌, Bool, true, false, List, [], ◌∷◌, ◌++◌, length, get_or, map, take, refl, ap, sym, ◌∙◌, subst, arith}
 use Rattle.std.specs.Prelude.{◌==◌, ◌&&◌}
 use Rattle.std.specs.List.{All, AllPairs, filter, list_any}
 use Rattle.std.specs.Ordering.{nat_cmp, ordering_then, MatchOrdering}
@@ -7,10 +7,9 @@ use Rattle.std.specs.declared.cmp.Ordering.{Ordering}
 use Rattle.std.specs.declared.cmp.Ordering.TheVariants.{Less, Equal, Greater}
 use Rattle.std.specs.Cmp.{ranks}
 use Rattle.std.specs.Cmp.Lexicographic.{slice_cmp}
-use Rattle.std.proofs.lemmas.Bool.Decides.{nat_tests}
-use Rattle.std.proofs.lemmas.List.{map-append, take_more}
-use Rattle.std.proofs.lemmas.List.Elements.{All-cons, All-append, All-map, All-filter, All-weaker, All-get_or, filter-append}
+use Rattle.std.proofs.lemmas.List.Elements.{All-cons, All-append, All-map, All-filter, All-weaker, All-get_or}
 use Rattle.std.proofs.Math.Seq.{take-append_seam}
+use Rattle.base.proofs.Numbers.{more_not_same, first_less}
 use Rattle.mailbox.specs.declared.key.Key.{Key}
 use Rattle.mailbox.specs.Values.{Item, Mailed}
 use Rattle.mailbox.specs.Item.{same_kind, same_key, is_at}
@@ -20,17 +19,9 @@ use Rattle.mailbox.specs.GroupPost.{group_posted, addressed, shortened}
 use Rattle.mailbox.proofs.Lists.{none_passes, any_of_none, pairs_head, pairs_tail}
 use Rattle.mailbox.proofs.Sound.{is_before}
 
-not_same : (a b : ℕ) → a < b → (b == a) ≡ false
-not_same a b below = grind (arith, nat_tests)
-
 -- copies for two members have two keys
 pub other_key : (w : Item) (a b : ℕ) → a < b → same_key (addressed w b).key (addressed w a).key ≡ false
-other_key w a b below = ap (λ c. c && (w.key.source == w.key.source) && (w.key.reference == w.key.reference) && same_kind w.key.kind w.key.kind) (not_same a b below)
-
-first_less : (x y : ℕ) (order : Ordering) → MatchOrdering order (x < y) (x ≡ y) (y < x) → x < y → order ≡ Less
-first_less x y Less h below = refl
-first_less x y Equal h below = absurd (omega (arith, h, below))
-first_less x y Greater h below = absurd (omega (arith, h, below))
+other_key w a b below = ap (λ c. c && (w.key.source == w.key.source) && (w.key.reference == w.key.reference) && same_kind w.key.kind w.key.kind) (more_not_same a b below)
 
 itself_equal : (x : ℕ) (order : Ordering) → MatchOrdering order (x < x) (x ≡ x) (x < x) → order ≡ Equal
 itself_equal x Less h = absurd (omega (arith, h))
@@ -67,21 +58,22 @@ module _ (w : Item) (receives : ℕ → Bool) where
       let k : Key = (addressed w member).key in
       let smaller : All (λ a. a < member) (take i members) = subst (λ d. All (λ a. a < d) (take i members)) (sym is) (below_next members i member rising below) in
       let chosen : All (λ a. a < member) (filter receives (take i members)) = All-filter receives (λ a. a < member) (take i members) smaller in
-      let alone : (receives member && holds m k) ≡ false = subst (λ d. (receives d && holds m (addressed w d).key) ≡ false) (sym is) (All-get_or (λ d. (receives d && holds m (addressed w d).key) ≡ false) members i member below (none_passes (λ d. receives d && holds m (addressed w d).key) members free)) in
+      let alone : (receives member && holds m k) ≡ false =
+      subst (λ d. (receives d && holds m (addressed w d).key) ≡ false) (sym is)
+      (All-get_or (λ d. (receives d && holds m (addressed w d).key) ≡ false) members i member below
+      (none_passes (λ d. receives d && holds m (addressed w d).key) members free)) in
       let none : holds m k ≡ false = ap (λ b. b && holds m k) (sym here) ∙ alone in (
-        All-append (λ o. IsBefore o (addressed w member)) m.items (made (take i members)) (All-weaker (λ o. o.number < w.number) (λ o. IsBefore o (addressed w member)) (λ o less. is_before o.number w.number o.key k less) m.items newest)
-            (All-map (λ o. IsBefore o (addressed w member)) (addressed w) (filter receives (take i members)) (All-weaker (λ a. a < member) (λ a. IsBefore (addressed w a) (addressed w member)) (λ a less. before_other w a member less) (filter receives (take i members)) chosen)),
+        All-append (λ o. IsBefore o (addressed w member)) m.items (made (take i members))
+            (All-weaker (λ o. o.number < w.number) (λ o. IsBefore o (addressed w member)) (λ o less. is_before o.number w.number o.key k less) m.items
+            newest)
+            (All-map (λ o. IsBefore o (addressed w member)) (addressed w) (filter receives (take i members))
+            (All-weaker (λ a. a < member) (λ a. IsBefore (addressed w a) (addressed w member)) (λ a less. before_other w a member less)
+            (filter receives (take i members)) chosen)),
         any_of_none (is_at k) (m.items ++ made (take i members)) (All-append (λ o. is_at k o ≡ false) m.items (made (take i members)) (none_passes (is_at k) m.items none)
-            (All-map (λ o. is_at k o ≡ false) (addressed w) (filter receives (take i members)) (All-weaker (λ a. a < member) (λ a. is_at k (addressed w a) ≡ false) (λ a less. other_key w a member less) (filter receives (take i members)) chosen))),
+            (All-map (λ o. is_at k o ≡ false) (addressed w) (filter receives (take i members))
+            (All-weaker (λ a. a < member) (λ a. is_at k (addressed w a) ≡ false) (λ a less. other_key w a member less)
+            (filter receives (take i members)) chosen))),
       )
-
-  -- one member more
-  pub made_more : (m : Mailed) (members : List ℕ) (i member : ℕ) → i < length members → member ≡ get_or members i member → group_posted (group_posted m (made (take i members))) (made (member ∷ [])) ≡ group_posted m (made (take (i + 1) members))
-  made_more m members i member below is =
-      let more : take (i + 1) members ≡ take i members ++ member ∷ [] = take_more members i member below ∙ ap (λ d. take i members ++ d ∷ []) (sym is) in
-      let all : made (take (i + 1) members) ≡ made (take i members) ++ made (member ∷ []) =
-      ap made more ∙ ap (map (addressed w)) (filter-append receives (take i members) (member ∷ [])) ∙ map-append (addressed w) (filter receives (take i members)) (filter receives (member ∷ [])) in
-      ap (λ ws. record { room = m.room; items = ws }) (append_assoc m.items (made (take i members)) (made (member ∷ [])) ∙ ap (λ ws. m.items ++ ws) (sym all))
 
 -- what was put at the end is taken away again
 pub taken_back : (m : Mailed) (ws : List Item) → shortened (group_posted m ws) (length m.items) ≡ m

@@ -7,6 +7,7 @@ use Rattle.std.proofs.lemmas.List.{length-map}
 use Rattle.std.proofs.lemmas.List.Elements.{All-nil, All-cons, All-head, All-tail, All-weaker}
 use Rattle.std.proofs.lemmas.List.Kept.{AllPairs-filter}
 use Rattle.std.proofs.lemmas.List.Sums.{length-filter, sum_by-append, sum_by-cons}
+use Rattle.base.proofs.Numbers.{same_test, less_not_same, more_not_same}
 use Rattle.registration.specs.Registered.{Registered}
 use Rattle.mailbox.specs.declared.key.GroupEnvelope.{GroupEnvelope}
 use Rattle.mailbox.specs.declared.key.Stamp.{Stamp}
@@ -35,15 +36,6 @@ any_alike p q (x ∷ xs) h =
 abbrev weight : Bool → ℕ
 weight b = cond b 1 0
 
-itself : (a : ℕ) → (a == a) ≡ true
-itself a = grind (arith, nat_tests)
-
-larger : (a b : ℕ) → a < b → (b == a) ≡ false
-larger a b below = grind (arith, nat_tests)
-
-smaller : (a b : ℕ) → a < b → (a == b) ≡ false
-smaller a b below = grind (arith, nat_tests)
-
 -- of copies for rising members, one is for each
 module _ (s : Registered) (e : GroupEnvelope) (stamp : Stamp) (pdu : List Bool) where
   abbrev copy : ℕ → Item
@@ -53,7 +45,7 @@ module _ (s : Registered) (e : GroupEnvelope) (stamp : Stamp) (pdu : List Bool) 
   none_for x [] h = refl
   none_for x (y ∷ xs) h =
       let all : count_by (is_to x) (map copy (y ∷ xs)) ≡ weight (y == x) + count_by (is_to x) (map copy xs) = sum_by-cons (λ w. weight (is_to x w)) (copy y) (map copy xs) in
-      let first : weight (y == x) ≡ 0 = ap weight (larger x y (All-head (λ z. x < z) y xs h)) in
+      let first : weight (y == x) ≡ 0 = ap weight (more_not_same x y (All-head (λ z. x < z) y xs h)) in
       let rest : count_by (is_to x) (map copy xs) ≡ 0 = none_for x xs (All-tail (λ z. x < z) y xs h) in
       omega (arith, all, first, rest)
 
@@ -64,13 +56,13 @@ module _ (s : Registered) (e : GroupEnvelope) (stamp : Stamp) (pdu : List Bool) 
       let rest : All (λ y. count_by (is_to y) (map copy xs) ≡ 1) xs = one_for_each xs (pairs_tail (λ a b. a < b) x xs rising) in
       All-cons (λ y. count_by (is_to y) (map copy (x ∷ xs)) ≡ 1) x xs
       (let all : count_by (is_to x) (map copy (x ∷ xs)) ≡ weight (x == x) + count_by (is_to x) (map copy xs) = sum_by-cons (λ w. weight (is_to x w)) (copy x) (map copy xs) in
-      let first : weight (x == x) ≡ 1 = ap weight (itself x) in
+      let first : weight (x == x) ≡ 1 = ap weight (same_test x) in
       let none : count_by (is_to x) (map copy xs) ≡ 0 = none_for x xs above in
       omega (arith, all, first, none))
       (λ k d below.
       let y : ℕ = get_or xs k d in
       let all : count_by (is_to y) (map copy (x ∷ xs)) ≡ weight (x == y) + count_by (is_to y) (map copy xs) = sum_by-cons (λ w. weight (is_to y w)) (copy x) (map copy xs) in
-      let first : weight (x == y) ≡ 0 = ap weight (smaller x y (above k d below)) in
+      let first : weight (x == y) ≡ 0 = ap weight (less_not_same x y (above k d below)) in
       let one : count_by (is_to y) (map copy xs) ≡ 1 = rest k d below in
       omega (arith, all, first, one))
 
@@ -100,6 +92,7 @@ module _ (s : Registered) (e : GroupEnvelope) (stamp : Stamp) (pdu : List Bool) 
       (All-weaker (λ x. count_by (is_to x) ws ≡ 1) (λ x. nat_le most_for_one (count_by (is_to x) m.items) ≡ nat_lt most_for_one (count_by (is_to x) (m.items ++ ws))) (λ x one. full_with m x ws one) xs
       (one_for_each xs (AllPairs-filter (λ a b. a < b) r members rising)))
       ∙ sym (any_mapped copy (λ w. nat_lt most_for_one (count_by (is_to w.key.destination) (m.items ++ ws))) xs) in
-      let crowded : nat_lt m.room (length m.items + count_by r members) ≡ nat_lt m.room (length (m.items ++ ws)) = ap (nat_lt m.room) (sym (length-append m.items ws ∙ ap (λ n. length m.items + n) counted)) in
+      let crowded : nat_lt m.room (length m.items + count_by r members) ≡ nat_lt m.room (length (m.items ++ ws)) =
+      ap (nat_lt m.room) (sym (length-append m.items ws ∙ ap (λ n. length m.items + n) counted)) in
       let none : (count_by r members == 0) ≡ (length ws == 0) = ap (λ n. n == 0) (sym counted) in
       λ i. first_of_copies (none i) (busy i) (full i) (crowded i)

@@ -5,6 +5,7 @@ use Rattle.std.specs.List.{All, AllPairs, filter, list_any}
 use Rattle.std.proofs.lemmas.List.Elements.{All-head, All-tail, All-append, All-map, All-weaker}
 use Rattle.std.proofs.lemmas.List.Kept.{AllPairs-cons, AllPairs-filter}
 use Rattle.std.proofs.lemmas.List.Sums.{sum_by-append, sum_by-cons}
+use Rattle.base.proofs.Numbers.{same_by_test}
 use Rattle.registration.specs.Registered.{Registered, rule_of}
 use Rattle.mailbox.specs.declared.key.GroupEnvelope.{GroupEnvelope}
 use Rattle.mailbox.specs.declared.key.Stamp.{Stamp}
@@ -17,7 +18,6 @@ use Rattle.mailbox.specs.GroupPost.{copy_key, copy_for, copies, is_receiver, add
 use Rattle.mailbox.specs.Sound.{IsSpelt, IsNumbered}
 use Rattle.mailbox.specs.Laws.{GroupPostIsMail}
 use Rattle.mailbox.proofs.Lists.{any_mapped, none_passes, pairs_head, pairs_tail}
-use Rattle.mailbox.proofs.Keys.{same_number}
 use Rattle.mailbox.proofs.Sound.{at_most, or_none, one_more, is_before}
 use Rattle.mailbox.proofs.Copies.{made, other_key, before_other}
 use Rattle.mailbox.proofs.CopiesRefused.{any_filtered}
@@ -38,14 +38,17 @@ not_first false false false false e = record { some = refl; free = refl; fit_eac
 
 -- what the copies are asked, where they are taken
 taken : (s : Registered) (m : Mailed) (e : GroupEnvelope) (ws : List Item) → group_refusal s m e ws ≡ None
-    → AreTaken (length ws == 0) (list_any (λ w. holds m w.key) ws) (list_any (λ w. nat_lt most_for_one (count_by (is_to w.key.destination) (m.items ++ ws))) ws) (nat_lt m.room (length (m.items ++ ws)))
+    → AreTaken (length ws == 0) (list_any (λ w. holds m w.key) ws)
+    (list_any (λ w. nat_lt most_for_one (count_by (is_to w.key.destination) (m.items ++ ws))) ws) (nat_lt m.room (length (m.items ++ ws)))
 taken s m e ws none =
     let known = or_none (unknown_refusal (rule_of s e.group)) _ none in
     let present = or_none (absent_refusal s e.source) (copies_refusal m ws) known.1 in
-    not_first (length ws == 0) (list_any (λ w. holds m w.key) ws) (list_any (λ w. nat_lt most_for_one (count_by (is_to w.key.destination) (m.items ++ ws))) ws) (nat_lt m.room (length (m.items ++ ws))) present.1
+    not_first (length ws == 0) (list_any (λ w. holds m w.key) ws)
+    (list_any (λ w. nat_lt most_for_one (count_by (is_to w.key.destination) (m.items ++ ws))) ws) (nat_lt m.room (length (m.items ++ ws))) present.1
 
 -- the keys of copies that are taken are free
-pub free_keys : (s : Registered) (m : Mailed) (e : GroupEnvelope) (members : List ℕ) (stamp : Stamp) (pdu : List Bool) (w : Item) → w ≡ copy_for s e stamp pdu e.source → group_refusal s m e (copies s e members stamp pdu) ≡ None
+pub free_keys : (s : Registered) (m : Mailed) (e : GroupEnvelope) (members : List ℕ) (stamp : Stamp) (pdu : List Bool) (w : Item) →
+    w ≡ copy_for s e stamp pdu e.source → group_refusal s m e (copies s e members stamp pdu) ≡ None
     → list_any (λ d. is_receiver s w.key.source d && holds m (addressed w d).key) members ≡ false
 free_keys s m e members stamp pdu w is none =
     ap (λ o. list_any (λ d. is_receiver s o.key.source d && holds m (addressed o d).key) members) is
@@ -53,7 +56,8 @@ free_keys s m e members stamp pdu w is none =
     ∙ (taken s m e (copies s e members stamp pdu) none).free
 
 -- and they are made of that message
-pub made_of : (s : Registered) (e : GroupEnvelope) (members : List ℕ) (stamp : Stamp) (pdu : List Bool) (w : Item) → w ≡ copy_for s e stamp pdu e.source → made w (is_receiver s w.key.source) members ≡ copies s e members stamp pdu
+pub made_of : (s : Registered) (e : GroupEnvelope) (members : List ℕ) (stamp : Stamp) (pdu : List Bool) (w : Item) →
+    w ≡ copy_for s e stamp pdu e.source → made w (is_receiver s w.key.source) members ≡ copies s e members stamp pdu
 made_of s e members stamp pdu w is = ap (λ o. made o (is_receiver s o.key.source) members) is
 
 module _ (R : Item → Item → Type 0) where
@@ -73,8 +77,9 @@ abbrev weight : Bool → ℕ
 weight b = cond b 1 0
 
 -- a destination is one of these, or none of them is for it
-one_or_none : (full : ℕ → Bool) (d : ℕ) (w : Item) (ws : List Item) (b : Bool) → is_to d w ≡ b → full w.key.destination ≡ false → (full d ≡ false) ⊎ (count_by (is_to d) ws ≡ 0) → (full d ≡ false) ⊎ (count_by (is_to d) (w ∷ ws) ≡ 0)
-one_or_none full d w ws true e room rest = inl (subst (λ n. full n ≡ false) (same_number w.key.destination d e) room)
+one_or_none : (full : ℕ → Bool) (d : ℕ) (w : Item) (ws : List Item) (b : Bool) → is_to d w ≡ b → full w.key.destination ≡ false → (full d ≡ false) ⊎
+    (count_by (is_to d) ws ≡ 0) → (full d ≡ false) ⊎ (count_by (is_to d) (w ∷ ws) ≡ 0)
+one_or_none full d w ws true e room rest = inl (subst (λ n. full n ≡ false) (same_by_test w.key.destination d e) room)
 one_or_none full d w ws false e room (inl fits) = inl fits
 one_or_none full d w ws false e room (inr none) =
     inr (let all : count_by (is_to d) (w ∷ ws) ≡ weight (is_to d w) + count_by (is_to d) ws = sum_by-cons (λ o. weight (is_to d o)) w ws in
@@ -86,7 +91,9 @@ each_or_none full d [] room = inr refl
 each_or_none full d (w ∷ ws) room =
     one_or_none full d w ws (is_to d w) refl (All-head (λ o. full o.key.destination ≡ false) w ws room) (each_or_none full d ws (All-tail (λ o. full o.key.destination ≡ false) w ws room))
 
-fits_for : (m : Mailed) (ws : List Item) (d : ℕ) → count_by (is_to d) m.items ≤ most_for_one → (nat_lt most_for_one (count_by (is_to d) (m.items ++ ws)) ≡ false) ⊎ (count_by (is_to d) ws ≡ 0) → count_by (is_to d) (m.items ++ ws) ≤ most_for_one
+fits_for : (m : Mailed) (ws : List Item) (d : ℕ) → count_by (is_to d) m.items ≤ most_for_one →
+    (nat_lt most_for_one (count_by (is_to d) (m.items ++ ws)) ≡ false) ⊎ (count_by (is_to d) ws ≡ 0) →
+    count_by (is_to d) (m.items ++ ws) ≤ most_for_one
 fits_for m ws d before (inl fits) = at_most most_for_one (count_by (is_to d) (m.items ++ ws)) fits
 fits_for m ws d before (inr none) =
     let all : count_by (is_to d) (m.items ++ ws) ≡ count_by (is_to d) m.items + count_by (is_to d) ws = sum_by-append (λ w. weight (is_to d w)) m.items ws in
@@ -111,6 +118,7 @@ group_post_is_mail s count m e members stamp pdu h rising number head written no
           (λ k d below l f within. none_passes (is_at (get_or ws l f).key) m.items (free l f within) k d below);
       fits = at_most m.room (length (m.items ++ ws)) fine.fit;
       fits_each = λ destination. fits_for m ws destination (h.fits_each destination)
-          (each_or_none (λ d. nat_lt most_for_one (count_by (is_to d) (m.items ++ ws))) destination ws (none_passes (λ w. nat_lt most_for_one (count_by (is_to w.key.destination) (m.items ++ ws))) ws fine.fit_each));
+          (each_or_none (λ d. nat_lt most_for_one (count_by (is_to d) (m.items ++ ws))) destination ws
+          (none_passes (λ w. nat_lt most_for_one (count_by (is_to w.key.destination) (m.items ++ ws))) ws fine.fit_each));
       spelt = All-append IsSpelt m.items ws h.spelt (All-map IsSpelt copy xs (λ k d below. record { head = head; written = written }));
     }

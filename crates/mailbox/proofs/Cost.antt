@@ -26,7 +26,8 @@ pub above_fewer : (height : ℕ) (all left : Mailed) → length left.items ≤ l
 above_fewer height all left fewer above = omega (arith, fewer, above)
 
 -- one item more that goes costs three ways down
-pub one_more_gone : (height all before after steps found gone left : ℕ) → after < before → before ≤ all → steps ≤ found + 3 * height * (all - before) → gone ≤ steps + 2 * height → left ≤ gone + height → left ≤ found + 3 * height * (all - after)
+pub one_more_gone : (height all before after steps found gone left : ℕ) → after < before → before ≤ all →
+    steps ≤ found + 3 * height * (all - before) → gone ≤ steps + 2 * height → left ≤ gone + height → left ≤ found + 3 * height * (all - after)
 one_more_gone height all before after steps found gone left fewer within so_far first second =
     let more : 3 * height * suc (all - before) ≤ 3 * height * (all - after) = mul-le-mul_left (3 * height) (omega (arith, fewer, within)) in
     let apart : 3 * height * suc (all - before) ≡ 3 * height * (all - before) + 3 * height = mul-suc (3 * height) (all - before) in

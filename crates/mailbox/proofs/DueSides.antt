@@ -4,6 +4,7 @@ use Rattle.std.specs.Prelude.{◌*◌, ◌&&◌}
 use Rattle.std.specs.List.{All, find}
 use Rattle.std.specs.declared.boxed.Box.{Box}
 use Rattle.std.proofs.lemmas.List.Elements.{All-head, All-tail, All-weaker}
+use Rattle.base.proofs.Bools.{and_false, and_true}
 use Rattle.prefix_tree.specs.Following.{is_after}
 use Rattle.mailbox.specs.declared.key.Key.{Key}
 use Rattle.mailbox.specs.declared.place.Place.{Place}
@@ -12,14 +13,6 @@ use Rattle.mailbox.specs.Inside.Boxes.{name_of}
 use Rattle.mailbox.specs.Inside.Places.{InOrder, Branch, is_due, is_due_after, places_of, branch}
 use Rattle.mailbox.proofs.Lists.{never_found}
 use Rattle.mailbox.proofs.Sides.{none_found, none_earlier, all_later, there, found_later}
-
-and_false : (a : Bool) → (a && false) ≡ false
-and_false true = refl
-and_false false = refl
-
-and_true : (a : Bool) → (a && true) ≡ a
-and_true true = refl
-and_true false = refl
 
 module _ {X : Type 0} where
   find_alike : (p q : X → Bool) (xs : List X) → All (λ x. p x ≡ q x) xs → find p xs ≡ find q xs
@@ -53,11 +46,13 @@ module _ {A : Type 0} (o : Option (Box Branch A)) (b : Box Branch A) (v : Branch
         (ap (λ c. is_due moment p && c) off ∙ and_false (is_due moment p)) found
 
     -- where it is after the key, but has not ended, all on the later side are after the key
-    pub due_beyond : (r : Option Place) → None ≡ find (is_due_after moment after) (places_of e) → is_after named_cmp name_of after p ≡ true → is_due moment p ≡ false → r ≡ find (is_due moment) (places_of l) → r ≡ find (is_due_after moment after) (places_of o)
+    pub due_beyond : (r : Option Place) → None ≡ find (is_due_after moment after) (places_of e) → is_after named_cmp name_of after p ≡ true →
+        is_due moment p ≡ false → r ≡ find (is_due moment) (places_of l) → r ≡ find (is_due_after moment after) (places_of o)
     due_beyond r none here not_due found =
         found_later o b v is at p e l parts (is_due_after moment after) r none (ap (λ c. c && is_after named_cmp name_of after p) not_due)
         (found ∙ sym (find_alike (is_due_after moment after) (is_due moment) (places_of l)
-        (All-weaker (λ q. is_after named_cmp name_of after q ≡ true) (λ q. is_due_after moment after q ≡ is_due moment q) (λ q later. ap (λ c. is_due moment q && c) later ∙ and_true (is_due moment q)) (places_of l)
+        (All-weaker (λ q. is_after named_cmp name_of after q ≡ true) (λ q. is_due_after moment after q ≡ is_due moment q)
+        (λ q later. ap (λ c. is_due moment q && c) later ∙ and_true (is_due moment q)) (places_of l)
         (all_later (places_of e) p (places_of l) parted after here))))
 
 -- what a search costs that begins at the root, by a height that is no lower

@@ -7,6 +7,8 @@ use Rattle.std.proofs.lemmas.List.Elements.{All-weaker, filter_agree, filter-app
 use Rattle.std.proofs.lemmas.List.{append-nil, length-append}
 use Rattle.std.proofs.lemmas.List.Folds.{list_any-append}
 use Rattle.std.proofs.lemmas.List.Sums.{length-filter, sum_by_push}
+use Rattle.base.proofs.Bools.{or_false}
+use Rattle.base.proofs.Numbers.{same_test}
 use Rattle.mailbox.specs.declared.key.Kind.TheVariants.{Message, Report}
 use Rattle.mailbox.specs.declared.key.Key.{Key}
 use Rattle.mailbox.specs.declared.key.Envelope.{Envelope}
@@ -16,7 +18,7 @@ use Rattle.mailbox.specs.Mail.{holds, without, with_item, posted, reported, wait
 use Rattle.mailbox.specs.Judged.{waits_alone}
 use Rattle.mailbox.proofs.Lists.{filter_within, filter_turned, filter_twice, filter_alike, any_within, find_within, none_passes, any_of_none, filter_all, some_pass, pairs_head, pairs_tail}
 use Rattle.mailbox.specs.Refusals.{crowd_refusal, full_refusal}
-use Rattle.mailbox.proofs.Keys.{number_itself, key_turned, key_itself, key_exact, at_is_to}
+use Rattle.mailbox.proofs.Keys.{key_turned, key_itself, key_exact, at_is_to}
 
 abbrev AreApart : List Item → Type 0
 AreApart ws = AllPairs (λ a b. same_key b.key a.key ≡ false) ws
@@ -37,7 +39,8 @@ reported_waiting m e status = ap length (filter_within (is_reported e status) (i
 pub at_waiting : (m : Mailed) (k : Key) → length (filter (is_at k) (waiting m k.destination)) ≡ length (filter (is_at k) m.items)
 at_waiting m k = ap length (filter_within (is_at k) (is_to k.destination) (at_is_to k) m.items)
 
-pub left_waiting : (m : Mailed) (e : Envelope) (status : ℕ) → length (filter (λ w. not (is_ended_by e status w)) (waiting m e.destination)) ≡ count_by (is_to e.destination) (filter (λ w. not (is_ended_by e status w)) m.items)
+pub left_waiting : (m : Mailed) (e : Envelope) (status : ℕ) → length (filter (λ w. not (is_ended_by e status w)) (waiting m e.destination)) ≡ count_by
+    (is_to e.destination) (filter (λ w. not (is_ended_by e status w)) m.items)
 left_waiting m e status =
     ap length (filter_turned (λ w. not (is_ended_by e status w)) (is_to e.destination) m.items)
     ∙ length-filter (is_to e.destination) (filter (λ w. not (is_ended_by e status w)) m.items)
@@ -48,14 +51,17 @@ no_report e status w h =
     let at : is_at (answered e Message) w ≡ true = (and_parts (is_at (answered e Message) w) (ends_request status (request_of w.pdu)) h).0 in
     ap (same_key (key_of e Report)) (sym (key_exact (answered e Message) w.key at)) ∙ and_right _ (same_kind Report Message) refl
 
-one_counted : (r a : Bool) (w : Item) (ls rs bs ws : List Item) → (r ≡ true → a ≡ false) → length ls + length rs + length bs ≡ length ws → length (cond (not (r || a)) (w ∷ ls) ls) + length (cond r (w ∷ rs) rs) + length (cond a (w ∷ bs) bs) ≡ length (w ∷ ws)
+one_counted : (r a : Bool) (w : Item) (ls rs bs ws : List Item) → (r ≡ true → a ≡ false) → length ls + length rs + length bs ≡ length ws →
+    length (cond (not (r || a)) (w ∷ ls) ls) + length (cond r (w ∷ rs) rs) + length (cond a (w ∷ bs) bs) ≡ length (w ∷ ws)
 one_counted true true w ls rs bs ws h e = absurd (false≢true (sym (h refl)))
 one_counted true false w ls rs bs ws h e = omega (arith, e)
 one_counted false true w ls rs bs ws h e = omega (arith, e)
 one_counted false false w ls rs bs ws h e = omega (arith, e)
 
 -- each item is left, is a message that ends, or is the report before
-pub all_counted : (e : Envelope) (status : ℕ) (ws : List Item) → length (filter (λ w. not (is_ended_by e status w)) ws) + length (filter (is_reported e status) ws) + length (filter (is_at (key_of e Report)) ws) ≡ length ws
+pub all_counted : (e : Envelope) (status : ℕ) (ws : List Item) →
+    length (filter (λ w. not (is_ended_by e status w)) ws) + length (filter (is_reported e status) ws) + length
+    (filter (is_at (key_of e Report)) ws) ≡ length ws
 all_counted e status [] = refl
 all_counted e status (w ∷ ws) = one_counted (is_reported e status w) (is_at (key_of e Report) w) w _ _ _ ws (no_report e status w) (all_counted e status ws)
 
@@ -67,7 +73,8 @@ module _ (k : Key) (test : Item → Bool) where
 
   one_goes : (w : Item) (ws : List Item) (a b : Bool) → is_at k w ≡ a → AreApart (w ∷ ws) → ((a && b) || list_any (λ o. is_at k o && test o) ws) ≡ true
       → (list_any (λ o. is_at k o && test o) ws ≡ true → filter (λ o. not (is_at k o)) ws ≡ filter (λ o. not (is_at k o && test o)) ws)
-      → cond (not a) (w ∷ filter (λ o. not (is_at k o)) ws) (filter (λ o. not (is_at k o)) ws) ≡ cond (not (a && b)) (w ∷ filter (λ o. not (is_at k o && test o)) ws) (filter (λ o. not (is_at k o && test o)) ws)
+      → cond (not a) (w ∷ filter (λ o. not (is_at k o)) ws) (filter (λ o. not (is_at k o)) ws) ≡ cond (not (a && b))
+      (w ∷ filter (λ o. not (is_at k o && test o)) ws) (filter (λ o. not (is_at k o && test o)) ws)
   one_goes w ws false b at apart some rest = ap (λ os. w ∷ os) (rest some)
   one_goes w ws true true at apart some rest =
       filter_alike (λ o. not (is_at k o)) (λ o. not (is_at k o && test o)) ws
@@ -124,21 +131,20 @@ reported_then m e status w is =
     ∙ (λ i. first i ++ cond (not (stays i)) (w ∷ []) []) in
     λ i. record { room = m.room; items = all i }
 
-or_none : (a : Bool) → (a || false) ≡ a
-or_none true = refl
-or_none false = refl
-
 -- to put the report ends no message, and none that the report ends goes
-pub still_ends : (m : Mailed) (e : Envelope) (status : ℕ) (w : Item) → w.key ≡ key_of e Report → list_any (is_reported e status) (with_item (without (is_at w.key) m) w).items ≡ list_any (is_reported e status) m.items
+pub still_ends : (m : Mailed) (e : Envelope) (status : ℕ) (w : Item) → w.key ≡ key_of e Report →
+    list_any (is_reported e status) (with_item (without (is_at w.key) m) w).items ≡ list_any (is_reported e status) m.items
 still_ends m e status w is =
     let at : is_at (key_of e Report) w ≡ true = ap (same_key (key_of e Report)) is ∙ key_itself (key_of e Report) in
     let stays : is_reported e status w ≡ false = false_from_ne_true (is_reported e status w) (λ h. false≢true (sym (no_report e status w h) ∙ at)) in
     list_any-append (is_reported e status) (filter (λ o. not (is_at w.key o)) m.items) (w ∷ [])
     ∙ (λ i. any_within (is_reported e status) (λ o. not (is_at w.key o)) (λ o h. ap (λ k. not (is_at k o)) is ∙ ap not (no_report e status o h)) m.items i || (stays i || false))
-    ∙ or_none (list_any (is_reported e status) m.items)
+    ∙ or_false (list_any (is_reported e status) m.items)
 
 -- to put the report for another leaves alone what is alone for its source
-pub still_alone : (m : Mailed) (e : Envelope) (w : Item) → w.key ≡ key_of e Report → (not (e.destination == e.source) && waits_alone m (answered e Message)) ≡ true → waits_alone (with_item (without (is_at w.key) m) w) (answered e Message) ≡ true
+pub still_alone : (m : Mailed) (e : Envelope) (w : Item) → w.key ≡ key_of e Report →
+    (not (e.destination == e.source) && waits_alone m (answered e Message)) ≡ true →
+    waits_alone (with_item (without (is_at w.key) m) w) (answered e Message) ≡ true
 still_alone m e w is alone =
     let k : Key = answered e Message in
     let both = and_parts (not (e.destination == e.source)) (waits_alone m k) alone in
@@ -161,7 +167,7 @@ found_waiting m k = find_within (is_at k) (is_to k.destination) (at_is_to k) m.i
 pub one_more_waits : (m : Mailed) (w : Item) → crowd_refusal m.room (count_by (is_to w.key.destination) m.items + 1) (length m.items + 1) ≡ full_refusal (posted m w) w.key.destination
 one_more_waits m w =
     let d : ℕ = w.key.destination in
-    let itself : is_to d w ≡ true = number_itself d in
+    let itself : is_to d w ≡ true = same_test d in
     let sum : count_by (is_to d) (m.items ++ w ∷ []) ≡ count_by (is_to d) m.items + cond (is_to d w) 1 0 = sum_by_push (λ x. cond (is_to d x) 1 0) m.items w in
     let counted : count_by (is_to d) m.items + 1 ≡ count_by (is_to d) (m.items ++ w ∷ []) = sym (sum ∙ ap (λ b. count_by (is_to d) m.items + cond b 1 0) itself) in
     λ i. crowd_refusal m.room (counted i) (sym (length-append m.items (w ∷ [])) i)

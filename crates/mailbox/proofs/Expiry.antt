@@ -41,7 +41,9 @@ module _ (ws : List Item) (moment : ℕ) where
         filter_twice (λ v. not (is_expired moment v)) (λ v. not (is_at w.key v)) ws
         ∙ filter_alike (λ v. not (is_at w.key v) && not (is_expired moment v)) (λ v. not (is_expired moment v)) ws
         (λ i d below. let v = get_or ws i d in
-        implied (not (is_at w.key v)) (not (is_expired moment v)) (turned_round (is_at w.key v) (is_expired moment v) (also_expired v (find_each (λ a b. same_key a.key b.key) (λ x. key_itself x.key) ws apart i d below))))
+        implied (not (is_at w.key v)) (not (is_expired moment v))
+        (turned_round (is_at w.key v) (is_expired moment v)
+        (also_expired v (find_each (λ a b. same_key a.key b.key) (λ x. key_itself x.key) ws apart i d below))))
 
     key_is : w.key ≡ p.key
     key_is = ap (λ (q : Place). q.key) the_item.1.1

@@ -11,6 +11,7 @@ use Rattle.std.proofs.lemmas.List.{map-append}
 use Rattle.std.proofs.lemmas.List.Elements.{All-nil, All-weaker, All-filter, All-push, filter_agree}
 use Rattle.std.proofs.lemmas.List.Kept.{AllPairs-filter}
 use Rattle.std.proofs.lemmas.List.Quantifiers.{all_pairs_push}
+use Rattle.base.proofs.Bools.{same_truth, is_equal}
 use Rattle.identity.specs.Path.{path_cmp, id_path}
 use Rattle.mailbox.specs.declared.key.Key.{Key}
 use Rattle.mailbox.specs.declared.place.Place.{Place}
@@ -19,8 +20,9 @@ use Rattle.mailbox.specs.Item.{same_key, is_at, is_to, is_expired}
 use Rattle.mailbox.specs.Order.{IsBefore, named, place_of}
 use Rattle.mailbox.specs.Inside.Places.{same_place, is_due}
 use Rattle.mailbox.specs.Inside.Boxes.{Boxes, items_under, box_of, swept, put_last, put, item_at, is_filed, in_order, is_under, AreFiled}
-use Rattle.mailbox.proofs.Lists.{implied, both_ways, filter_alike, any_within, find_within, found_passes, found_with, found_any, never_found, none_passes, any_of_none, find_agree, find_mapped, filter_all, none_left, looked_up, filter_mapped, any_mapped, find_each}
-use Rattle.mailbox.proofs.Keys.{key_itself, key_exact, at_is_under, under_is_to, named_total, total_itself, is_equal}
+use Rattle.mailbox.proofs.Lists.{implied, filter_alike, any_within, find_within, found_passes, found_with, found_any, never_found, none_passes}
+use Rattle.mailbox.proofs.Lists.{any_of_none, find_agree, find_mapped, filter_all, none_left, looked_up, filter_mapped, any_mapped, find_each}
+use Rattle.mailbox.proofs.Keys.{key_itself, key_exact, at_is_under, under_is_to, named_total, total_itself}
 use Rattle.mailbox.proofs.Boxed.{IsBoxed, items_boxed, boxed_swept, boxed_put}
 
 abbrev pub unwrap_or_item : Item → Option Item → Item
@@ -40,7 +42,8 @@ none_filed boxes order empty none = record {
 pub found_each : (ws : List Item) (boxes : Boxes) (order : List Place) → AreFiled ws boxes order → All (λ w. item_at boxes w.key ≡ Some w) ws
 found_each ws boxes order filed =
     All-weaker (λ w. find (is_at w.key) ws ≡ Some w) (λ w. item_at boxes w.key ≡ Some w)
-    (λ w found. ap (find (is_at w.key)) (items_boxed ws boxes (id_path w.key.destination) filed.boxed) ∙ find_within (is_at w.key) (is_under (id_path w.key.destination)) (at_is_under w.key) ws ∙ found)
+    (λ w found. ap (find (is_at w.key)) (items_boxed ws boxes (id_path w.key.destination) filed.boxed) ∙
+    find_within (is_at w.key) (is_under (id_path w.key.destination)) (at_is_under w.key) ws ∙ found)
     ws (find_each (λ a b. same_key a.key b.key) (λ w. key_itself w.key) ws filed.apart)
 
 pub filed_in_order : (ws : List Item) (boxes : Boxes) (order : List Place) → AreFiled ws boxes order → in_order boxes order ≡ ws
@@ -50,10 +53,13 @@ pub filed_again : (ws : List Item) (boxes : Boxes) (order : List Place) → AreF
 filed_again ws boxes order filed = subst (λ os. AreFiled os boxes order) (sym (filed_in_order ws boxes order filed)) filed
 
 -- the box of a destination has its items
-pub filed_waiting : (ws : List Item) (boxes : Boxes) (order : List Place) (destination : ℕ) → AreFiled ws boxes order → destination < 2 ^ 48 → items_under boxes (id_path destination) ≡ filter (is_to destination) ws
+pub filed_waiting : (ws : List Item) (boxes : Boxes) (order : List Place) (destination : ℕ) → AreFiled ws boxes order → destination < 2 ^ 48 →
+    items_under boxes (id_path destination) ≡ filter (is_to destination) ws
 filed_waiting ws boxes order destination filed below =
     items_boxed ws boxes (id_path destination) filed.boxed
-    ∙ filter_alike (is_under (id_path destination)) (is_to destination) ws (All-weaker (λ w. w.key.destination < 2 ^ 48) (λ w. is_under (id_path destination) w ≡ is_to destination w) (λ w whole. under_is_to destination below w whole) ws filed.whole)
+    ∙ filter_alike (is_under (id_path destination)) (is_to destination) ws
+    (All-weaker (λ w. w.key.destination < 2 ^ 48) (λ w. is_under (id_path destination) w ≡ is_to destination w)
+    (λ w whole. under_is_to destination below w whole) ws filed.whole)
 
 not_zero : (n : ℕ) → (suc n == 0) ≡ false
 not_zero n = grind (arith, nat_tests)
@@ -63,7 +69,8 @@ none_boxed [] = refl
 none_boxed (w ∷ ws) = sym (not_zero (length ws))
 
 -- there is no box of a destination for which nothing waits
-pub first_filed : (ws : List Item) (boxes : Boxes) (order : List Place) (destination : ℕ) → AreFiled ws boxes order → destination < 2 ^ 48 → (length (filter (is_to destination) ws) == 0) ≡ is_none (finite.get boxes (id_path destination))
+pub first_filed : (ws : List Item) (boxes : Boxes) (order : List Place) (destination : ℕ) → AreFiled ws boxes order → destination < 2 ^ 48 →
+    (length (filter (is_to destination) ws) == 0) ≡ is_none (finite.get boxes (id_path destination))
 first_filed ws boxes order destination filed below =
     ap (λ (os : List Item). length os == 0) (sym (filed_waiting ws boxes order destination filed below) ∙ items_boxed ws boxes (id_path destination) filed.boxed)
     ∙ sym (ap is_none (filed.boxed (id_path destination)) ∙ none_boxed (filter (is_under (id_path destination)) ws))
@@ -73,10 +80,14 @@ pub filed_holds : (ws : List Item) (boxes : Boxes) (order : List Place) (k : Key
 filed_holds ws boxes order k filed = ap (list_any (is_at k)) (items_boxed ws boxes (id_path k.destination) filed.boxed) ∙ any_within (is_at k) (is_under (id_path k.destination)) (at_is_under k) ws
 
 -- one key's item goes
-pub filed_removed : (ws : List Item) (boxes new : Boxes) (order left : List Place) (k : Key) → AreFiled ws boxes order → new ≡ swept boxes (id_path k.destination) (is_at k) → left ≡ filter (λ place. not (same_key k place.key)) order → AreFiled (filter (λ w. not (is_at k w)) ws) new left
+pub filed_removed : (ws : List Item) (boxes new : Boxes) (order left : List Place) (k : Key) → AreFiled ws boxes order →
+    new ≡ swept boxes (id_path k.destination) (is_at k) → left ≡ filter (λ place. not (same_key k place.key)) order →
+    AreFiled (filter (λ w. not (is_at k w)) ws) new left
 filed_removed ws boxes new order left k filed swept_so left_so = record {
   boxed = subst (IsBoxed (filter (λ w. not (is_at k w)) ws)) (sym swept_so)
-      (subst (λ os. IsBoxed os (swept boxes (id_path k.destination) (is_at k))) (filter_agree (λ w. not (is_under (id_path k.destination) w && is_at k w)) (λ w. not (is_at k w)) (λ w. ap not (implied (is_under (id_path k.destination) w) (is_at k w) (at_is_under k w))) ws)
+      (subst (λ os. IsBoxed os (swept boxes (id_path k.destination) (is_at k)))
+      (filter_agree (λ w. not (is_under (id_path k.destination) w && is_at k w)) (λ w. not (is_at k w))
+      (λ w. ap not (implied (is_under (id_path k.destination) w) (is_at k w) (at_is_under k w))) ws)
       (boxed_swept ws boxes filed.boxed (id_path k.destination) (is_at k)));
   indexed = left_so ∙ ap (filter (λ place. not (same_key k place.key))) filed.indexed ∙ filter_mapped place_of (λ place. not (same_key k place.key)) ws;
   ordered = AllPairs-filter IsBefore (λ w. not (is_at k w)) ws filed.ordered;
@@ -85,7 +96,9 @@ filed_removed ws boxes new order left k filed swept_so left_so = record {
 }
 
 -- one item more, after all others, in place of any at its key
-pub filed_put : (ws : List Item) (boxes new : Boxes) (order longer : List Place) (w : Item) → AreFiled ws boxes order → All (λ o. IsBefore o w) ws → w.key.destination < 2 ^ 48 → new ≡ put boxes w → longer ≡ filter (λ place. not (same_key w.key place.key)) order ++ place_of w ∷ [] → AreFiled (put_last ws w) new longer
+pub filed_put : (ws : List Item) (boxes new : Boxes) (order longer : List Place) (w : Item) → AreFiled ws boxes order → All (λ o. IsBefore o w) ws →
+    w.key.destination < 2 ^ 48 → new ≡ put boxes w → longer ≡ filter (λ place. not (same_key w.key place.key)) order ++ place_of w ∷ [] →
+    AreFiled (put_last ws w) new longer
 filed_put ws boxes new order longer w filed last below put_so longer_so =
     let left : List Item = filter (λ o. not (is_at w.key o)) ws in
     record {
@@ -93,7 +106,8 @@ filed_put ws boxes new order longer w filed last below put_so longer_so =
       indexed = longer_so ∙ ap (λ places. filter (λ place. not (same_key w.key place.key)) places ++ place_of w ∷ []) filed.indexed
           ∙ ap (λ places. places ++ place_of w ∷ []) (filter_mapped place_of (λ place. not (same_key w.key place.key)) ws) ∙ sym (map-append place_of left (w ∷ []));
       ordered = all_pairs_push IsBefore left w (AllPairs-filter IsBefore (λ o. not (is_at w.key o)) ws filed.ordered) (All-filter (λ o. not (is_at w.key o)) (λ o. IsBefore o w) ws last);
-      apart = all_pairs_push (λ a b. same_key b.key a.key ≡ false) left w (AllPairs-filter (λ a b. same_key b.key a.key ≡ false) (λ o. not (is_at w.key o)) ws filed.apart) (none_left (is_at w.key) ws);
+      apart = all_pairs_push (λ a b. same_key b.key a.key ≡ false) left w
+          (AllPairs-filter (λ a b. same_key b.key a.key ≡ false) (λ o. not (is_at w.key o)) ws filed.apart) (none_left (is_at w.key) ws);
       whole = All-push (λ o. o.key.destination < 2 ^ 48) left w (All-filter (λ o. not (is_at w.key o)) (λ o. o.key.destination < 2 ^ 48) ws filed.whole) below;
     }
 
@@ -152,7 +166,7 @@ module _ (ws : List Item) (boxes : Boxes) (order : List Place) (k : Key) (filed 
     same_tests : All (λ v. same_item w v ≡ is_at k v) ws
     same_tests i d below =
         let v : Item = get_or ws i d in
-        both_ways (same_item w v) (is_at k v)
+        same_truth (same_item w v) (is_at k v)
         (by_place v (find_each same_item item_itself ws items_apart i d below))
         (by_key v (find_each (λ a b. same_key a.key b.key) (λ x. key_itself x.key) ws filed.apart i d below))
 
@@ -160,7 +174,8 @@ module _ (ws : List Item) (boxes : Boxes) (order : List Place) (k : Key) (filed 
     pub same_removal : filter (λ place. not (same_place (place_of w) place)) order ≡ filter (λ place. not (same_key k place.key)) order
     same_removal =
         ap (filter (λ place. not (same_place (place_of w) place))) filed.indexed ∙ filter_mapped place_of (λ place. not (same_place (place_of w) place)) ws
-        ∙ ap (map place_of) (filter_alike (λ v. not (same_item w v)) (λ v. not (is_at k v)) ws (All-weaker (λ v. same_item w v ≡ is_at k v) (λ v. not (same_item w v) ≡ not (is_at k v)) (λ v e. ap not e) ws same_tests))
+        ∙ ap (map place_of) (filter_alike (λ v. not (same_item w v)) (λ v. not (is_at k v)) ws
+        (All-weaker (λ v. same_item w v ≡ is_at k v) (λ v. not (same_item w v) ≡ not (is_at k v)) (λ v e. ap not e) ws same_tests))
         ∙ sym (filter_mapped place_of (λ place. not (same_key k place.key)) ws) ∙ ap (filter (λ place. not (same_key k place.key))) (sym filed.indexed)
 
     -- it is among them
@@ -187,9 +202,6 @@ module _ (ws : List Item) (boxes : Boxes) (order : List Place) (k : Key) (filed 
     pub place_found : list_any (same_place p) order ≡ true
     place_found = subst (λ q. list_any (same_place q) order ≡ true) the_item.1.1 (place_there the_item.0 the_item.1.0)
 
-  pub none_held : None ≡ option_map place_of (item_at boxes k) → list_any (is_at k) ws ≡ false
-  none_held none = any_of_none (is_at k) ws (never_found (is_at k) ws (sym found_at_key ∙ no_item (item_at boxes k) none))
-
 -- no place of an item is no item
 pub none_placed : (test : Item → Bool) (ws : List Item) → None ≡ option_map place_of (find test ws) → list_any test ws ≡ false
 none_placed test ws none = any_of_none test ws (never_found test ws (no_item (find test ws) none))
@@ -198,7 +210,8 @@ none_placed test ws none = any_of_none test ws (never_found test ws (no_item (fi
 pub first_expired : (ws : List Item) (boxes : Boxes) (order : List Place) (moment : ℕ) → AreFiled ws boxes order → find (is_due moment) order ≡ option_map place_of (find (is_expired moment) ws)
 first_expired ws boxes order moment filed = ap (find (is_due moment)) filed.indexed ∙ find_mapped place_of (is_due moment) ws
 
-module _ (ws : List Item) (boxes new : Boxes) (order longer : List Place) (w : Item) (p : Place) (filed : AreFiled ws boxes order) (last : All (λ o. IsBefore o w) ws) (below : w.key.destination < 2 ^ 48) (put_so : new ≡ put boxes w) (is : p ≡ place_of w) where
+module _ (ws : List Item) (boxes new : Boxes) (order longer : List Place) (w : Item) (p : Place) (filed : AreFiled ws boxes order)
+    (last : All (λ o. IsBefore o w) ws) (below : w.key.destination < 2 ^ 48) (put_so : new ≡ put boxes w) (is : p ≡ place_of w) where
   -- an item at a key at which none was
   pub filed_put_free : list_any (is_at w.key) ws ≡ false → longer ≡ order ++ p ∷ [] → AreFiled (ws ++ w ∷ []) new longer
   filed_put_free free longer_so =
@@ -208,7 +221,8 @@ module _ (ws : List Item) (boxes new : Boxes) (order longer : List Place) (w : I
       subst (λ os. AreFiled (os ++ w ∷ []) new longer) alone (filed_put ws boxes new order longer w filed last below put_so (longer_so ∙ (λ i. sym same i ++ is i ∷ [])))
 
   -- an item in the place of another
-  pub filed_put_again : (old : Place) → Some old ≡ option_map place_of (item_at boxes p.key) → longer ≡ filter (λ place. not (same_place old place)) order ++ p ∷ [] → AreFiled (put_last ws w) new longer
+  pub filed_put_again : (old : Place) → Some old ≡ option_map place_of (item_at boxes p.key) →
+      longer ≡ filter (λ place. not (same_place old place)) order ++ p ∷ [] → AreFiled (put_last ws w) new longer
   filed_put_again old at longer_so =
       filed_put ws boxes new order longer w filed last below put_so
       (longer_so ∙ (λ i. place_removed ws boxes order w.key filed old (subst (λ q. Some old ≡ option_map place_of (item_at boxes q.key)) is at) i ++ is i ∷ []))

@@ -54,7 +54,8 @@ module _ {A : Type 0} (p : Place) (e l : Option (Box Branch A)) where
   counted = length-append (places_of e) (p ∷ places_of l)
 
   -- a node made of these sides
-  pub made : (height least : ℕ) → height ≡ max (height_of e) (height_of l) + 1 → least ≡ min (min p.deadline (soonest (places_of e))) (soonest (places_of l)) → height_of e ≤ height_of l + 1 → height_of l ≤ height_of e + 1
+  pub made : (height least : ℕ) → height ≡ max (height_of e) (height_of l) + 1 →
+      least ≡ min (min p.deadline (soonest (places_of e))) (soonest (places_of l)) → height_of e ≤ height_of l + 1 → height_of l ≤ height_of e + 1
       → IsLow (height_of e) (length (places_of e)) → IsLow (height_of l) (length (places_of l)) → length (places_of e) + length (places_of l) + 1 < 2 ^ 64 → IsNode height least p e l
   made height least tall soon first second low_e low_l few = record {
     tall = tall;

@@ -18,7 +18,9 @@ use Rattle.mailbox.proofs.Effects.{holds_waiting, one_more_waits}
 
 -- where a rule serves the destination and the source is present
 module _ (s : Registered) (m : Mailed) (e : Envelope) (known : unknown_refusal (rule_of s e.destination) ≡ None) (present : absent_refusal s e.source ≡ None) where
-  pub post_as_judged : (k : Key) → k ≡ key_of e Message → (r : Option MailFault) → r ≡ option_or (busy_refusal m k) (crowd_refusal m.room (count_by (is_to k.destination) m.items + 1) (length m.items + 1)) → (stamp : Stamp) (pdu : List Bool) → r ≡ post_refusal s m (item_for s (key_of e Message) stamp pdu)
+  pub post_as_judged : (k : Key) → k ≡ key_of e Message → (r : Option MailFault) →
+      r ≡ option_or (busy_refusal m k) (crowd_refusal m.room (count_by (is_to k.destination) m.items + 1) (length m.items + 1)) →
+      (stamp : Stamp) (pdu : List Bool) → r ≡ post_refusal s m (item_for s (key_of e Message) stamp pdu)
   post_as_judged k at r is stamp pdu =
       let w : Item = item_for s (key_of e Message) stamp pdu in
       is ∙ ap (λ (j : Key). option_or (busy_refusal m j) (crowd_refusal m.room (count_by (is_to j.destination) m.items + 1) (length m.items + 1))) at
@@ -38,5 +40,7 @@ module _ (s : Registered) (m : Mailed) (e : Envelope) (known : unknown_refusal (
     pub report_missing : list_any (is_at (answered e Message)) (waiting m e.source) ≡ false → Some NoSuchMessage ≡ report_refusal s m e status report
     report_missing none = judged false none
 
-    pub report_as_judged : list_any (is_at (answered e Message)) (waiting m e.source) ≡ true → (r : Option MailFault) → r ≡ (let left = without (is_ended_by e status) m in crowd_refusal m.room (count_by (is_to e.destination) left.items + 1) (length left.items + 1)) → r ≡ report_refusal s m e status report
+    pub report_as_judged : list_any (is_at (answered e Message)) (waiting m e.source) ≡ true → (r : Option MailFault) →
+        r ≡ (let left = without (is_ended_by e status) m in
+        crowd_refusal m.room (count_by (is_to e.destination) left.items + 1) (length left.items + 1)) → r ≡ report_refusal s m e status report
     report_as_judged held r is = is ∙ one_more_waits (without (is_ended_by e status) m) report ∙ judged true held

@@ -1,7 +1,7 @@
 -- When two keys are one, and when a destination is under a path.
 use Rattle.std.proofs.Common.{◌≡◌, ℕ, ◌<◌, ◌^◌, true, false, refl, ap, sym, ◌∙◌, arith}
 use Rattle.std.specs.Prelude.{◌==◌, ◌&&◌}
-use Rattle.std.specs.Ordering.{eq_by_cmp, is_eq, ordering_reverse}
+use Rattle.std.specs.Ordering.{eq_by_cmp, ordering_reverse}
 use Rattle.std.specs.Cmp.{eq_by_cmp_equiv, IsTotalOrder, on_total}
 use Rattle.std.specs.declared.cmp.Ordering.{Ordering}
 use Rattle.std.specs.declared.cmp.Ordering.TheVariants.{Less, Equal, Greater}
@@ -9,6 +9,8 @@ use Rattle.std.proofs.lemmas.Cmp.{nat_list_cmp_total}
 use Rattle.mailbox.specs.Order.{place_at, named_cmp}
 use Rattle.std.proofs.lemmas.Bool.{and_parts, false≢true}
 use Rattle.std.proofs.lemmas.Bool.Decides.{nat_tests}
+use Rattle.base.proofs.Bools.{same_truth}
+use Rattle.base.proofs.Numbers.{same_by_test, same_test}
 use Rattle.identity.specs.Path.{Path, path_cmp, id_path}
 use Rattle.identity.specs.Inside.PathLaws.{paths_total, tie_exact, tied, id_path-injective}
 use Rattle.mailbox.specs.declared.key.Kind.{Kind}
@@ -17,13 +19,6 @@ use Rattle.mailbox.specs.declared.key.Key.{Key}
 use Rattle.mailbox.specs.Values.{Item}
 use Rattle.mailbox.specs.Item.{same_kind, same_key, is_at, is_to}
 use Rattle.mailbox.specs.Inside.Boxes.{is_under}
-use Rattle.mailbox.proofs.Lists.{both_ways}
-
-pub same_number : (a b : ℕ) → (a == b) ≡ true → a ≡ b
-same_number a b h = grind (arith, nat_tests)
-
-pub number_itself : (a : ℕ) → (a == a) ≡ true
-number_itself a = grind (arith, nat_tests)
 
 number_turned : (a b : ℕ) → (a == b) ≡ (b == a)
 number_turned a b = grind (arith, nat_tests)
@@ -45,7 +40,7 @@ kind_exact Report Message e = absurd (false≢true e)
 kind_exact Report Report e = refl
 
 pub key_itself : (k : Key) → same_key k k ≡ true
-key_itself k = λ i. (number_itself k.destination i) && (number_itself k.source i) && (number_itself k.reference i) && kind_itself k.kind i
+key_itself k = λ i. (same_test k.destination i) && (same_test k.source i) && (same_test k.reference i) && kind_itself k.kind i
 
 pub key_turned : (k j : Key) → same_key k j ≡ same_key j k
 key_turned k j = λ i. (number_turned k.destination j.destination i) && (number_turned k.source j.source i) && (number_turned k.reference j.reference i) && kind_turned k.kind j.kind i
@@ -56,15 +51,15 @@ key_exact k j e =
     let b = and_parts ((k.destination == j.destination) && (k.source == j.source)) (k.reference == j.reference) a.0 in
     let c = and_parts (k.destination == j.destination) (k.source == j.source) b.0 in
     λ i. record {
-      destination = same_number k.destination j.destination c.0 i;
-      source = same_number k.source j.source c.1 i;
-      reference = same_number k.reference j.reference b.1 i;
+      destination = same_by_test k.destination j.destination c.0 i;
+      source = same_by_test k.source j.source c.1 i;
+      reference = same_by_test k.reference j.reference b.1 i;
       kind = kind_exact k.kind j.kind a.1 i;
     }
 
 -- what is at a key is for its destination, and under the path of that
 pub at_is_to : (k : Key) (w : Item) → is_at k w ≡ true → is_to k.destination w ≡ true
-at_is_to k w e = ap (λ j. j.destination == k.destination) (sym (key_exact k w.key e)) ∙ number_itself k.destination
+at_is_to k w e = ap (λ j. j.destination == k.destination) (sym (key_exact k w.key e)) ∙ same_test k.destination
 
 pub at_is_under : (k : Key) (w : Item) → is_at k w ≡ true → is_under (id_path k.destination) w ≡ true
 at_is_under k w e = ap (λ j. eq_by_cmp path_cmp (id_path k.destination) (id_path j.destination)) (sym (key_exact k w.key e)) ∙ tied (id_path k.destination)
@@ -76,18 +71,13 @@ under_other p q r other here = ap (eq_by_cmp path_cmp p) (sym (tie_exact q r her
 -- of identities: under the path is for the destination
 pub under_is_to : (destination : ℕ) → destination < 2 ^ 48 → (w : Item) → w.key.destination < 2 ^ 48 → is_under (id_path destination) w ≡ is_to destination w
 under_is_to destination below w whole =
-    both_ways (is_under (id_path destination) w) (is_to destination w)
-    (λ e. ap (λ d. d == destination) (id_path-injective w.key.destination destination whole below (sym (tie_exact (id_path destination) (id_path w.key.destination) e))) ∙ number_itself destination)
-    (λ e. ap (λ d. eq_by_cmp path_cmp (id_path destination) (id_path d)) (same_number w.key.destination destination e) ∙ tied (id_path destination))
+    same_truth (is_under (id_path destination) w) (is_to destination w)
+    (λ e. ap (λ d. d == destination) (id_path-injective w.key.destination destination whole below (sym (tie_exact (id_path destination) (id_path w.key.destination) e))) ∙ same_test destination)
+    (λ e. ap (λ d. eq_by_cmp path_cmp (id_path destination) (id_path d)) (same_by_test w.key.destination destination e) ∙ tied (id_path destination))
 
 -- numbers with keys are ordered
 pub named_total : IsTotalOrder named_cmp
 named_total = on_total (λ (a : ℕ × Key). place_at a.0 a.1) nat_list_cmp_total
-
-pub is_equal : (o : Ordering) → is_eq o ≡ true → o ≡ Equal
-is_equal Less e = absurd (false≢true e)
-is_equal Equal e = refl
-is_equal Greater e = absurd (false≢true e)
 
 own_reverse : (o : Ordering) → o ≡ ordering_reverse o → o ≡ Equal
 own_reverse Less e = absurd cc

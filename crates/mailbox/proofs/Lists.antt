@@ -6,22 +6,13 @@ use Rattle.std.specs.Option.{option_map}
 use Rattle.std.proofs.lemmas.Bool.{false≢true, false_from_ne_true, not-true, and_parts, or_parts}
 use Rattle.std.proofs.lemmas.List.Sums.{length-filter, count_by-le-length}
 use Rattle.std.proofs.lemmas.List.Elements.{All-nil, All-cons, All-head, All-tail, All-weaker, filter_agree, filter_passes}
+use Rattle.base.proofs.Bools.{and_turned}
 
 -- of two tests, where one implies the other
 pub implied : (a b : Bool) → (b ≡ true → a ≡ true) → (a && b) ≡ b
 implied true b h = refl
 implied false true h = absurd (false≢true (h refl))
 implied false false h = refl
-
-pub and_turned : (a b : Bool) → (a && b) ≡ (b && a)
-and_turned true true = refl
-and_turned true false = refl
-and_turned false true = refl
-and_turned false false = refl
-
-pub both_ways : (a b : Bool) → (a ≡ true → b ≡ true) → (b ≡ true → a ≡ true) → a ≡ b
-both_ways true b h k = sym (h refl)
-both_ways false b h k = sym (false_from_ne_true b (λ e. false≢true (k e)))
 
 -- not both, of what is at a: not the second
 pub beside : (a b : Bool) → (a && not b) ≡ (not (a && b) && a)
@@ -86,7 +77,8 @@ module _ {X : Type 0} where
       let rest : filter (λ y. not (p y)) xs ≡ xs = filter_all p xs (All-tail (λ y. p y ≡ false) x xs h) in
       λ i. cond (not (first i)) (x ∷ rest i) (rest i)
 
-  left_but : (p : X → Bool) (b : Bool) (x : X) (xs : List X) → (b && list_all p xs) ≡ true → (list_all p xs ≡ true → filter (λ y. not (p y)) xs ≡ []) → cond (not b) (x ∷ filter (λ y. not (p y)) xs) (filter (λ y. not (p y)) xs) ≡ []
+  left_but : (p : X → Bool) (b : Bool) (x : X) (xs : List X) → (b && list_all p xs) ≡ true →
+      (list_all p xs ≡ true → filter (λ y. not (p y)) xs ≡ []) → cond (not b) (x ∷ filter (λ y. not (p y)) xs) (filter (λ y. not (p y)) xs) ≡ []
   left_but p true x xs h rest = rest h
   left_but p false x xs h rest = absurd (false≢true h)
 

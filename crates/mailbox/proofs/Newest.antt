@@ -60,7 +60,8 @@ prefix_of ws xs x is =
     ap (λ n. take n ws) shorter ∙ ap (take (length xs)) is ∙ take-append_seam xs (x ∷ [])
 
 -- the newest item goes
-pub filed_dropped : (ws : List Item) (boxes new : Boxes) (order left : List Place) (last : Place) → AreFiled ws boxes order → order ≡ left ++ last ∷ [] → new ≡ swept boxes (id_path last.key.destination) (is_at last.key) → AreFiled (take (length ws - 1) ws) new left
+pub filed_dropped : (ws : List Item) (boxes new : Boxes) (order left : List Place) (last : Place) → AreFiled ws boxes order →
+    order ≡ left ++ last ∷ [] → new ≡ swept boxes (id_path last.key.destination) (is_at last.key) → AreFiled (take (length ws - 1) ws) new left
 filed_dropped ws boxes new order left last filed ended swept_so =
     let end : EndsIn ws left last = ends_in ws left last (sym filed.indexed ∙ ended) in
     let k : Key = end.item.key in
@@ -78,9 +79,3 @@ take_within zero k xs below = refl
 take_within (suc n) zero xs below = absurd (omega (arith, below))
 take_within (suc n) (suc k) [] below = refl
 take_within (suc n) (suc k) (x ∷ xs) below = ap (λ ys. x ∷ ys) (take_within n k xs (omega (arith, below)))
-
-pub take_whole : {X : Type 0} (n : ℕ) (xs : List X) → length xs ≤ n → take n xs ≡ xs
-take_whole zero [] below = refl
-take_whole zero (x ∷ xs) below = absurd (omega (arith, below))
-take_whole (suc n) [] below = refl
-take_whole (suc n) (x ∷ xs) below = ap (λ ys. x ∷ ys) (take_whole n xs (omega (arith, below)))

@@ -27,7 +27,8 @@ by_test k n false e below = inl (let same : k ≡ n = grind (arith, nat_tests) i
 last_or_before : (k n : ℕ) → k < n → (k ≡ n - 1) ⊎ (k < n - 1)
 last_or_before k n below = by_test k (n - 1) (nat_lt k (n - 1)) refl (omega (arith, below))
 
-module _ (ws : List Item) (order : List Place) (last : Place) (number : ℕ) (k : Key) (indexed : order ≡ map place_of ws) (some : 0 < length order) (is : (d : Place) → last ≡ get_or order (length order - 1) d) where
+module _ (ws : List Item) (order : List Place) (last : Place) (number : ℕ) (k : Key) (indexed : order ≡ map place_of ws) (some : 0 < length order)
+    (is : (d : Place) → last ≡ get_or order (length order - 1) d) where
   -- it is the place of the last item
   last_place : (d : Item) → last ≡ place_of (get_or ws (length ws - 1) d)
   last_place d =
@@ -39,7 +40,8 @@ module _ (ws : List Item) (order : List Place) (last : Place) (number : ℕ) (k 
   one_under ordered under i d below (inr less) =
       let a : Item = get_or ws i d in
       let z : Item = get_or ws (length ws - 1) d in
-      nat_list_cmp_total.trans (place_at a.number a.key) (place_at z.number z.key) (place_at number k) (ordered i (length ws - 1) d less (omega (arith, below))) (subst (IsUnder number k) (last_place d) under)
+      nat_list_cmp_total.trans (place_at a.number a.key) (place_at z.number z.key) (place_at number k)
+      (ordered i (length ws - 1) d less (omega (arith, below))) (subst (IsUnder number k) (last_place d) under)
 
   all_under : AllPairs IsBefore ws → IsUnder number k last → All (λ o. IsUnder number k (place_of o)) ws
   all_under ordered under i d below = one_under ordered under i d below (last_or_before i (length ws) below)
@@ -50,7 +52,9 @@ module _ (ws : List Item) (order : List Place) (last : Place) (number : ℕ) (k 
       subst (IsUnder number k) (sym (last_place d)) (all (length ws - 1) d (omega (arith, some, counted)))
 
 -- what is under the last is under all
-pub next_to : (m : Mailed) (ws : List Item) (order : List Place) (last : Place) (number : ℕ) (k : Key) (b : Bool) → ws ≡ m.items → order ≡ map place_of ws → AllPairs IsBefore ws → 0 < length order → ((d : Place) → last ≡ get_or order (length order - 1) d) → (IsTrue b ↔ IsUnder number k last) → IsTrue b ↔ ComesLast m number k
+pub next_to : (m : Mailed) (ws : List Item) (order : List Place) (last : Place) (number : ℕ) (k : Key) (b : Bool) → ws ≡ m.items →
+    order ≡ map place_of ws → AllPairs IsBefore ws → 0 < length order → ((d : Place) → last ≡ get_or order (length order - 1) d) →
+    (IsTrue b ↔ IsUnder number k last) → IsTrue b ↔ ComesLast m number k
 next_to m [] order last number k b these indexed ordered some is tested = absurd (omega (arith, some, ap length indexed))
 next_to m (w ∷ ws) order last number k b these indexed ordered some is tested = subst (λ os. IsTrue b ↔ All (λ o. IsUnder number k (place_of o)) os) these (
   (λ t. all_under (w ∷ ws) order last number k indexed some is ordered (tested.0 t)),
@@ -58,7 +62,8 @@ next_to m (w ∷ ws) order last number k b these indexed ordered some is tested 
 )
 
 -- the same, of the place that all of them end with
-pub next_to_last : (m : Mailed) (ws : List Item) (order : List Place) (last : Place) (number : ℕ) (k : Key) (b : Bool) → ws ≡ m.items → order ≡ map place_of ws → AllPairs IsBefore ws → EndsWith order (Some last) → (IsTrue b ↔ IsUnder number k last) → IsTrue b ↔ ComesLast m number k
+pub next_to_last : (m : Mailed) (ws : List Item) (order : List Place) (last : Place) (number : ℕ) (k : Key) (b : Bool) → ws ≡ m.items →
+    order ≡ map place_of ws → AllPairs IsBefore ws → EndsWith order (Some last) → (IsTrue b ↔ IsUnder number k last) → IsTrue b ↔ ComesLast m number k
 next_to_last m ws order last number k b these indexed ordered ends tested =
     let counted : length order ≡ length ends.0 + 1 = ap length ends.1 ∙ length-append ends.0 (last ∷ []) in
     let at : length order - 1 ≡ length ends.0 + 0 = omega (arith, counted) in

@@ -1,11 +1,10 @@
 -- The item after a number and key, by the index.
 use Rattle.std.proofs.Common.{◌≡◌, ℕ, ◌<◌, Bool, true, false, cond, List, [], ◌∷◌, length, map, Option, Some, None, refl, ap, sym, ◌∙◌, subst}
 use Rattle.std.specs.Prelude.{IfSome}
-use Rattle.std.specs.List.{All, find}
 use Rattle.std.specs.Option.{option_map}
 use Rattle.std.proofs.Math.ListN.{get_or-map}
 use Rattle.std.proofs.lemmas.List.{length-map}
-use Rattle.std.proofs.lemmas.List.Elements.{All-head, All-tail}
+use Rattle.base.proofs.Lists.{found_all}
 use Rattle.prefix_tree.specs.Following.{is_after, next_of, AreRising}
 use Rattle.mailbox.specs.declared.key.Key.{Key}
 use Rattle.mailbox.specs.declared.place.Place.{Place}
@@ -13,15 +12,6 @@ use Rattle.mailbox.specs.Values.{Item}
 use Rattle.mailbox.specs.Order.{named_cmp, named, place_of}
 use Rattle.mailbox.specs.Inside.Boxes.{Boxes, item_at, name_of, AreFiled}
 use Rattle.mailbox.proofs.Filing.{found_each}
-
-module _ {X : Type 0} where
-  pub found_all : (P : X → Type 0) (test : X → Bool) (xs : List X) → All P xs → IfSome (find test xs) P
-  found_all P test [] all = tt
-  found_all P test (x ∷ xs) all = by (test x) (found_all P test xs (All-tail P x xs all))
-    where
-      by : (b : Bool) → IfSome (find test xs) P → IfSome (cond b (Some x) (find test xs)) P
-      by true rest = All-head P x xs all
-      by false rest = rest
 
 -- an item with this place
 abbrev item_with : Place → Item
@@ -57,7 +47,8 @@ pub looked_up : (boxes : Boxes) (o : Option Item) → IfSome o (λ w. item_at bo
 looked_up boxes None there = refl
 looked_up boxes (Some w) there = there
 
-pub next_filed : (ws : List Item) (boxes : Boxes) (order : List Place) (after : Option (ℕ × Key)) (o : Option Place) → AreFiled ws boxes order → o ≡ next_of named_cmp name_of order after → at_place boxes o ≡ next_of named_cmp named ws after
+pub next_filed : (ws : List Item) (boxes : Boxes) (order : List Place) (after : Option (ℕ × Key)) (o : Option Place) → AreFiled ws boxes order →
+    o ≡ next_of named_cmp name_of order after → at_place boxes o ≡ next_of named_cmp named ws after
 next_filed ws boxes order after o filed is =
     ap (at_place boxes) (is ∙ ap (λ places. next_of named_cmp name_of places after) filed.indexed ∙ next_mapped after ws)
     ∙ looked_up boxes (next_of named_cmp named ws after) (found_all (λ w. item_at boxes w.key ≡ Some w) (is_after named_cmp named after) ws (found_each ws boxes order filed))

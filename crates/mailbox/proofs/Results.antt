@@ -1,10 +1,6 @@
 -- What is known of a call however it ends.
-use Rattle.std.specs.Prelude.{Result, Ok, Err, OnOk, OnErr}
+use Rattle.std.specs.Prelude.{Result, Ok, Err, OnOk}
 
 pub known_ok : {T E P : Type 0} (r : Result T E) → P → OnOk r P
 known_ok (Ok x) p = p
 known_ok (Err e) p = tt
-
-pub known_err : {T E P : Type 0} (r : Result T E) → P → OnErr r P
-known_err (Ok x) p = tt
-known_err (Err e) p = p

@@ -16,6 +16,7 @@ use Rattle.std.proofs.lemmas.Bool.{false≢true, false_from_ne_true, ltb-true, l
 use Rattle.std.proofs.lemmas.Cmp.{nat_list_cmp_total}
 use Rattle.std.proofs.lemmas.List.Elements.{All-nil, All-cons, All-head, All-tail, All-weaker, filter-append}
 use Rattle.std.proofs.lemmas.List.Folds.{list_any-append}
+use Rattle.base.proofs.Bools.{is_less as less_is}
 use Rattle.prefix_tree.specs.Following.{is_after}
 use Rattle.mailbox.specs.declared.key.Key.{Key}
 use Rattle.mailbox.specs.declared.place.Place.{Place}
@@ -68,15 +69,6 @@ module _ {X : Type 0} where
   pairs_prefix R [] ys h = λ i j d less below. absurd (omega (arith, below))
   pairs_prefix R (x ∷ xs) ys h = pairs_cons R x xs (all_prefix (R x) xs ys (pairs_head R x (xs ++ ys) h)) (pairs_prefix R xs ys (pairs_tail R x (xs ++ ys) h))
 
--- a node with one place more at its end
-pub all_with : {A : Type 0} (p q : Place) (e l m : Option (Box Branch A)) → places_of m ≡ places_of l ++ q ∷ [] → all_of p e m ≡ all_of p e l ++ q ∷ []
-all_with p q e l m is = ap (λ places. places_of e ++ p ∷ places) is ∙ sym (append_assoc (places_of e) (p ∷ places_of l) (q ∷ []))
-
-less_is : (r : Ordering) → is_lt r ≡ true → r ≡ Less
-less_is Less e = refl
-less_is Equal e = absurd (false≢true e)
-less_is Greater e = absurd (false≢true e)
-
 -- nothing is due where the first ends later
 pub none_due : (moment : ℕ) (places : List Place) → moment < soonest places → find (is_due moment) places ≡ None
 none_due moment [] before = refl
@@ -86,7 +78,8 @@ none_due moment (p ∷ ps) before =
     ap (λ b. cond b (Some p) (find (is_due moment) ps)) here ∙ none_due moment ps rest
 
 -- so too of the places that a link leads to
-pub not_due : {A : Type 0} (o : Option (Box Branch A)) (b : Box Branch A) (v : Branch) (is : o ≡ Some b) (at : v ≡ b.value) (moment : ℕ) → nat_lt moment (soonest v.places) ≡ true → None ≡ find (is_due moment) (places_of o)
+pub not_due : {A : Type 0} (o : Option (Box Branch A)) (b : Box Branch A) (v : Branch) (is : o ≡ Some b) (at : v ≡ b.value) (moment : ℕ) →
+    nat_lt moment (soonest v.places) ≡ true → None ≡ find (is_due moment) (places_of o)
 not_due o b v is at moment later = sym (ap (find (is_due moment)) (ap places_of is ∙ ap (λ (w : Branch). w.places) (sym at)) ∙ none_due moment v.places (ltb-true _ _ later))
 
 -- something is due where the first has ended
@@ -99,7 +92,8 @@ some_due moment (p ∷ ps) before ended =
     ] refl
 
 -- so too of the places that a link leads to
-pub some_left : {A : Type 0} (o : Option (Box Branch A)) (b : Box Branch A) (v : Branch) (is : o ≡ Some b) (at : v ≡ b.value) (moment : ℕ) → moment < 18446744073709551615 → nat_lt moment (soonest v.places) ≡ false → is_some (find (is_due moment) (places_of o)) ≡ true
+pub some_left : {A : Type 0} (o : Option (Box Branch A)) (b : Box Branch A) (v : Branch) (is : o ≡ Some b) (at : v ≡ b.value) (moment : ℕ) →
+    moment < 18446744073709551615 → nat_lt moment (soonest v.places) ≡ false → is_some (find (is_due moment) (places_of o)) ≡ true
 some_left o b v is at moment before ended = ap (λ ps. is_some (find (is_due moment) ps)) (ap places_of is ∙ ap (λ (w : Branch). w.places) (sym at)) ∙ some_due moment v.places before ended
 
 -- what is borrowed of something is something
@@ -204,7 +198,10 @@ module _ (es : List Place) (own : Place) (ls : List Place) (order : InOrder (es 
       named_trans k q is_less less = place_total.trans (record { number = k.0; key = k.1; deadline = 0 }) q own (less_is (named_cmp k (name_of q)) is_less) less
 
   pub none_earlier : (after : Option (ℕ × Key)) → is_after named_cmp name_of after own ≡ false → find (is_after named_cmp name_of after) es ≡ None
-  none_earlier after not_after = none_found (is_after named_cmp name_of after) es (All-weaker (λ q. place_cmp q own ≡ Less) (λ q. is_after named_cmp name_of after q ≡ false) (λ q less. still_not after q less not_after) es befores)
+  none_earlier after not_after =
+      none_found (is_after named_cmp name_of after) es
+      (All-weaker (λ q. place_cmp q own ≡ Less) (λ q. is_after named_cmp name_of after q ≡ false) (λ q less. still_not after q less not_after) es
+      befores)
 
   -- what comes after a place that is after a key is after it too
   still_after : (after : Option (ℕ × Key)) (q : Place) → place_cmp own q ≡ Less → is_after named_cmp name_of after own ≡ true → is_after named_cmp name_of after q ≡ true
@@ -259,14 +256,17 @@ module _ {A : Type 0} (o : Option (Box Branch A)) (b : Box Branch A) (v : Branch
     later_order = order_later (places_of e) p (places_of l) parted
 
     -- where the node's own place is not after a key, the first that is comes later
-    pub first_later : (after : Option (ℕ × Key)) (r : Option Place) → is_after named_cmp name_of after p ≡ false → r ≡ find (is_after named_cmp name_of after) (places_of l) → r ≡ find (is_after named_cmp name_of after) (places_of o)
+    pub first_later : (after : Option (ℕ × Key)) (r : Option Place) → is_after named_cmp name_of after p ≡ false →
+        r ≡ find (is_after named_cmp name_of after) (places_of l) → r ≡ find (is_after named_cmp name_of after) (places_of o)
     first_later after r off found = found_later (is_after named_cmp name_of after) r (sym (none_earlier (places_of e) p (places_of l) parted after off)) off found
 
     module _ (q : Place) where
-      pub removed_earlier : place_cmp q p ≡ Less → (left : List Place) → left ≡ filter (λ z. not (same_place q z)) (places_of e) → left ++ p ∷ places_of l ≡ filter (λ z. not (same_place q z)) (places_of o)
+      pub removed_earlier : place_cmp q p ≡ Less → (left : List Place) → left ≡ filter (λ z. not (same_place q z)) (places_of e) →
+          left ++ p ∷ places_of l ≡ filter (λ z. not (same_place q z)) (places_of o)
       removed_earlier less left is = gone_earlier (places_of e) p (places_of l) parted q less left is ∙ ap (filter (λ z. not (same_place q z))) (sym there)
 
-      pub removed_later : place_cmp q p ≡ Greater → (left : List Place) → left ≡ filter (λ z. not (same_place q z)) (places_of l) → places_of e ++ p ∷ left ≡ filter (λ z. not (same_place q z)) (places_of o)
+      pub removed_later : place_cmp q p ≡ Greater → (left : List Place) → left ≡ filter (λ z. not (same_place q z)) (places_of l) →
+          places_of e ++ p ∷ left ≡ filter (λ z. not (same_place q z)) (places_of o)
       removed_later more left is = gone_later (places_of e) p (places_of l) parted q more left is ∙ ap (filter (λ z. not (same_place q z))) (sym there)
 
       pub removed_here : place_cmp q p ≡ Equal → places_of e ++ places_of l ≡ filter (λ z. not (same_place q z)) (places_of o)

@@ -1,10 +1,9 @@
 -- Each effect keeps what holds of the mail.
 use Rattle.std.proofs.Common.{◌≡◌, ℕ, ◌+◌, ◌<◌, ◌≤◌, Bool, true, false, cond, List, [], ◌∷◌, ◌++◌, get_or, refl, ap, sym, ◌∙◌, subst, arith, Option, Some, None}
-use Rattle.std.specs.Prelude.{◌==◌, ◌||◌, not, nat_lt, count_by, if◌then◌else◌}
+use Rattle.std.specs.Prelude.{not, nat_lt, count_by, if◌then◌else◌}
 use Rattle.std.specs.List.{All, filter, list_any}
-use Rattle.std.specs.Ordering.{nat_cmp, ordering_then, MatchOrdering}
-use Rattle.std.specs.declared.cmp.Ordering.{Ordering}
-use Rattle.std.specs.declared.cmp.Ordering.TheVariants.{Less, Equal, Greater}
+use Rattle.std.specs.Ordering.{nat_cmp, ordering_then}
+use Rattle.std.specs.declared.cmp.Ordering.TheVariants.{Less}
 use Rattle.std.specs.Cmp.{ranks}
 use Rattle.std.specs.Cmp.Lexicographic.{slice_cmp}
 use Rattle.std.proofs.lemmas.List.Elements.{All-nil, All-cons, All-filter, All-push, All-weaker, All-get_or, filter_passes}
@@ -12,9 +11,10 @@ use Rattle.std.proofs.lemmas.List.Kept.{AllPairs-filter}
 use Rattle.std.proofs.lemmas.List.Quantifiers.{all_pairs_push}
 use Rattle.std.proofs.lemmas.List.Sums.{length-filter, count_by-le-length, sum_by-cons, sum_by_push}
 use Rattle.std.proofs.lemmas.Bool.Decides.{nat_tests}
-use mathlib.Core.Bool.{false≢true}
 use Rattle.std.specs.Option.{option_or}
-use Rattle.registration.specs.Registered.{Registered, rule_of}
+use Rattle.base.proofs.Bools.{neither, not_true}
+use Rattle.base.proofs.Numbers.{same_by_test, first_less}
+use Rattle.registration.specs.Registered.{rule_of}
 use Rattle.mailbox.specs.declared.fault.MailFault.{MailFault}
 use Rattle.mailbox.specs.declared.fault.MailFault.TheVariants.{ReferenceBusy, MailboxFull, CentreFull}
 use Rattle.mailbox.specs.declared.key.Kind.TheVariants.{Message}
@@ -23,15 +23,10 @@ use Rattle.mailbox.specs.Values.{Item, Mailed}
 use Rattle.mailbox.specs.Item.{same_key, answered, is_to, is_at, is_reported, is_ended_by}
 use Rattle.mailbox.specs.Mail.{holds, without, with_item, posted, reported}
 use Rattle.registration.specs.Refusals.{refused_if}
-use Rattle.mailbox.specs.Refusals.{unknown_refusal, absent_refusal, busy_refusal, missing_refusal, crowd_refusal, full_refusal, restore_refusal, post_refusal, most_for_one}
+use Rattle.mailbox.specs.Refusals.{unknown_refusal, absent_refusal, busy_refusal, missing_refusal, crowd_refusal, full_refusal, restore_refusal, most_for_one}
 use Rattle.mailbox.specs.Order.{kind_number, place_at, IsBefore}
 use Rattle.mailbox.specs.Sound.{IsSpelt, IsNumbered, IsMail}
 use Rattle.mailbox.specs.Laws.{EmptyIsMail, MoreIsMail, RemovalIsMail, PostIsMail, ReportIsMail, NewComesLast}
-
-is_less : (x y : ℕ) (order : Ordering) → MatchOrdering order (x < y) (x ≡ y) (y < x) → x < y → order ≡ Less
-is_less x y Less h below = refl
-is_less x y Equal h below = absurd (omega (arith, h, below))
-is_less x y Greater h below = absurd (omega (arith, h, below))
 
 -- the rest of a place
 abbrev key_place : Key → List ℕ
@@ -39,10 +34,11 @@ key_place k = k.destination ∷ k.source ∷ k.reference ∷ kind_number k.kind 
 
 -- a smaller number is before
 pub is_before : (m n : ℕ) (j k : Key) → m < n → slice_cmp nat_cmp (place_at m j) (place_at n k) ≡ Less
-is_before m n j k below = ap (λ order. ordering_then order (slice_cmp nat_cmp (key_place j) (key_place k))) (is_less m n (nat_cmp m n) (ranks m n) below)
+is_before m n j k below = ap (λ order. ordering_then order (slice_cmp nat_cmp (key_place j) (key_place k))) (first_less m n (nat_cmp m n) (ranks m n) below)
 
 pub new_comes_last : NewComesLast
-new_comes_last count m number k h new i d below = let p = All-get_or (IsNumbered count) m.items i d below h.numbered in let w = get_or m.items i d in is_before w.number number w.key k (omega (arith, p.1, new))
+new_comes_last count m number k h new i d below = let p = All-get_or (IsNumbered count) m.items i d below h.numbered in let w = get_or m.items i d in
+    is_before w.number number w.key k (omega (arith, p.1, new))
 
 abbrev weight : Bool → ℕ
 weight b = cond b 1 0
@@ -124,12 +120,10 @@ fewer_fit room a b c d h for_one in_all =
     let e = not_crowded room a b h in
     λ i. option_or (refused_if (sym (not_over most_for_one c (omega (arith, for_one, e.0))) i) MailboxFull) (refused_if (sym (not_over room d (omega (arith, in_all, e.1))) i) CentreFull)
 
-nat_same : (a b : ℕ) → (a == b) ≡ true → a ≡ b
-nat_same a b h = grind (arith, nat_tests)
-
 -- the destination of the new item has room for it, and the others have no more than before
-each_fits : (m : Mailed) (w : Item) (destination : ℕ) (b : Bool) → is_to destination w ≡ b → count_by (is_to destination) m.items ≤ most_for_one → count_by (is_to w.key.destination) (m.items ++ w ∷ []) ≤ most_for_one → count_by (is_to destination) (m.items ++ w ∷ []) ≤ most_for_one
-each_fits m w destination true e old new = subst (λ d. count_by (is_to d) (m.items ++ w ∷ []) ≤ most_for_one) (nat_same w.key.destination destination e) new
+each_fits : (m : Mailed) (w : Item) (destination : ℕ) (b : Bool) → is_to destination w ≡ b → count_by (is_to destination) m.items ≤ most_for_one →
+    count_by (is_to w.key.destination) (m.items ++ w ∷ []) ≤ most_for_one → count_by (is_to destination) (m.items ++ w ∷ []) ≤ most_for_one
+each_fits m w destination true e old new = subst (λ d. count_by (is_to d) (m.items ++ w ∷ []) ≤ most_for_one) (same_by_test w.key.destination destination e) new
 each_fits m w destination false e old new =
     let sum : count_by (is_to destination) (m.items ++ w ∷ []) ≡ count_by (is_to destination) m.items + weight (is_to destination w) = sum_by_push (λ x. cond (is_to destination x) 1 0) m.items w in
     let nothing : weight (is_to destination w) ≡ 0 = ap weight e in
@@ -139,8 +133,11 @@ with_new : (count : ℕ) (m : Mailed) (w : Item) → IsMail count m → IsNew co
 with_new count m w h new =
     let crowd = not_crowded m.room _ _ new.none in
     record {
-      numbered = All-push (IsNumbered (count + 1)) m.items w (All-weaker (IsNumbered count) (IsNumbered (count + 1)) (one_more count (count + 1) (omega arith)) m.items h.numbered) (omega (arith, new.number), omega (arith, new.number));
-      ordered = all_pairs_push IsBefore m.items w h.ordered (λ k d below. let p = All-get_or (IsNumbered count) m.items k d below h.numbered in is_before (get_or m.items k d).number w.number (get_or m.items k d).key w.key (omega (arith, p.1, new.number)));
+      numbered = All-push (IsNumbered (count + 1)) m.items w
+          (All-weaker (IsNumbered count) (IsNumbered (count + 1)) (one_more count (count + 1) (omega arith)) m.items h.numbered)
+          (omega (arith, new.number), omega (arith, new.number));
+      ordered = all_pairs_push IsBefore m.items w h.ordered (λ k d below. let p = All-get_or (IsNumbered count) m.items k d below h.numbered in
+          is_before (get_or m.items k d).number w.number (get_or m.items k d).key w.key (omega (arith, p.1, new.number)));
       apart = all_pairs_push (λ a b. same_key b.key a.key ≡ false) m.items w h.apart (λ k d below. All-get_or (λ o. same_key w.key o.key ≡ false) m.items k d below new.alone);
       fits = crowd.1;
       fits_each = λ destination. each_fits m w destination (is_to destination w) refl (h.fits_each destination) crowd.0;
@@ -151,21 +148,13 @@ pub or_none : (f g : Option MailFault) → option_or f g ≡ None → (f ≡ Non
 or_none (Some fault) g h = cc
 or_none None g h = (refl, h)
 
-neither : (a b : Bool) → (a || b) ≡ false → (a ≡ false) × (b ≡ false)
-neither true b h = absurd (false≢true (sym h))
-neither false b h = (refl, h)
-
 not_any : (p : Item → Bool) (xs : List Item) → list_any p xs ≡ false → All (λ x. p x ≡ false) xs
 not_any p [] h = All-nil (λ x. p x ≡ false)
 not_any p (x ∷ xs) h = let e = neither (p x) (list_any p xs) h in All-cons (λ y. p y ≡ false) x xs e.0 (not_any p xs e.1)
 
-turned : (b : Bool) → not b ≡ true → b ≡ false
-turned true e = absurd (false≢true e)
-turned false e = refl
-
 -- an item that is left does not pass the test
 pub drops : (test : Item → Bool) (m : Mailed) → All (λ o. test o ≡ false) (without test m).items
-drops test m = All-weaker (λ o. not (test o) ≡ true) (λ o. test o ≡ false) (λ o e. turned (test o) e) (filter (λ w. not (test w)) m.items) (filter_passes (λ w. not (test w)) m.items)
+drops test m = All-weaker (λ o. not (test o) ≡ true) (λ o. test o ≡ false) (λ o e. not_true (test o) e) (filter (λ w. not (test w)) m.items) (filter_passes (λ w. not (test w)) m.items)
 
 pub post_is_mail : PostIsMail
 post_is_mail s count m w h number spelt none =
@@ -178,13 +167,6 @@ post_is_mail s count m w h number spelt none =
 -- an item that has a place has a key of its own
 pub not_taken : (m : Mailed) (w : Item) → restore_refusal m w ≡ None → holds m w.key ≡ false
 not_taken m w none = not_some (holds m w.key) ReferenceBusy (or_none (busy_refusal m w.key) (full_refusal (posted m w) w.key.destination) none).0
-
--- a message that may be posted has a key of its own
-pub not_busy : (s : Registered) (m : Mailed) (w : Item) → post_refusal s m w ≡ None → holds m w.key ≡ false
-not_busy s m w none =
-    let a = or_none (unknown_refusal (rule_of s w.key.destination)) _ none in
-    let b = or_none (absent_refusal s w.key.source) _ a.1 in
-    not_taken m w b.1
 
 pub report_is_mail : ReportIsMail
 report_is_mail s count m e status w h number at spelt none =

@@ -1,7 +1,7 @@
 -- An item's PDU is a text of its layer.
 use Rattle.std.proofs.Common.{◌≡◌, ℕ, true, refl, sym, ◌∙◌, Option, Some, None}
-use Rattle.identity.proofs.NumberText.{and_right as right}
 use mathlib.Core.Bool.{false≢true}
+use Rattle.base.proofs.Bools.{second_true}
 use Rattle.sds_tl.specs.declared.fault.SdsFault.{SdsFault}
 use Rattle.sds_tl.specs.declared.pdu.Head.{Head}
 use Rattle.sds_tl.specs.Syntax.{Spells}
@@ -20,5 +20,7 @@ headed Report reference (Some fault) head h = absurd (false≢true h)
 
 pub items_are_texts : (A : Type 0) → ItemsAreTexts A
 items_are_texts A w spelt =
-    let spells : Spells {A = A} (value w.pdu) w.pdu = value_takes A w.pdu (headed w.key.kind w.key.reference (fault w.pdu) (head_value w.pdu) (right (may_have_group w.key.kind w.group) _ spelt.head)) in
+    let spells : Spells {A = A} (value w.pdu) w.pdu =
+    value_takes A w.pdu (headed w.key.kind w.key.reference (fault w.pdu) (head_value w.pdu)
+    (second_true (may_have_group w.key.kind w.group) _ spelt.head)) in
     (spells, sym spelt.written ∙ cleared_is_canon A (value w.pdu) w.pdu spells)

@@ -15,8 +15,9 @@ use crate::node::Link;
 use crate::order::Order;
 use crate::place::Place;
 use crate::{Item, Key, items};
+use base::TryCopy;
 use identity::{Itsi, Prefix};
-use prefix_tree::{LazyMap, TryCopy};
+use prefix_tree::LazyMap;
 use std::alloc::{AllocError, Allocator};
 use std::marker::Model;
 

@@ -8,7 +8,7 @@ ghost use Rattle.mailbox.specs.Inside.Places.{InOrder, is_due_after, places_of, 
 use crate::Key;
 use crate::node::{Link, first_due};
 use crate::place::Place;
-use prefix_tree::Steps;
+use base::Steps;
 use std::alloc::Allocator;
 use std::sync::ledger::Ledger;
 

@@ -10,7 +10,7 @@ ghost use Rattle.mailbox.specs.Order.{place_of};
 use crate::items::{any_at, place_at};
 use crate::place::Place;
 use crate::{Item, Key};
-use prefix_tree::TryCopy;
+use base::TryCopy;
 use std::alloc::{AllocError, Allocator};
 use std::marker::Model;
 

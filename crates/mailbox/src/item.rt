@@ -6,10 +6,10 @@ ghost use Rattle.mailbox.specs.Values.{latest_deadline};
 ghost use Rattle.mailbox.specs.Order.{place_of};
 ghost use Rattle.mailbox.specs.GroupPost.{addressed};
 ghost use Rattle.mailbox.specs.Item.{request_of, asks_nothing, asks_consumed, wants_acknowledgement, ends_request};
-ghost use Rattle.mailbox.specs.Item.{is_at, is_to, is_reported, is_ended_by, is_answerless, is_confirmed, is_expired};
+ghost use Rattle.mailbox.specs.Item.{is_at, is_reported, is_ended_by, is_answerless, is_confirmed};
 
 use crate::place::Place;
-use crate::{Envelope, Key, Kind, Moment};
+use crate::{Envelope, Key, Kind};
 use identity::{Bits, Gtsi, Itsi};
 use sds_tl::{DeliveryReportRequest, DeliveryStatus, Head};
 use std::alloc::{AllocError, Allocator};
@@ -134,12 +134,6 @@ impl<A: Allocator> Item<A> {
         *key == self.key
     }
 
-    pub(crate) fn is_to(&self, destination: Itsi) -> bool
-        ensures { result ≡ is_to destination self.now }
-    {
-        self.key.destination.number() == destination.number()
-    }
-
     /// Whether it is a message that a report in this envelope ends.
     pub(crate) fn is_reported(&self, envelope: &Envelope, status: DeliveryStatus) -> bool
         ensures { result ≡ is_reported envelope.now status self.now }
@@ -168,12 +162,6 @@ impl<A: Allocator> Item<A> {
         ensures { result ≡ is_confirmed key.now self.now }
     {
         self.is_at(key) && self.is_answerless()
-    }
-
-    pub(crate) fn is_expired(&self, moment: Moment) -> bool
-        ensures { result ≡ is_expired moment self.now }
-    {
-        self.deadline <= u64::from(moment.number())
     }
 }
 

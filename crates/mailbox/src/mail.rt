@@ -21,8 +21,8 @@ use crate::items::{all_at, any_at, any_confirmed};
 use crate::order::Order;
 use crate::place::Place;
 use crate::{Envelope, Item, Key, Kind, MailFault, Moment, Opening, ReportOpening, Stamp};
+use base::{Steps, TryCopy};
 use identity::{Bits, Itsi};
-use prefix_tree::{Steps, TryCopy};
 use registration::{Limits, Registry, Rule};
 use sds_tl::DeliveryStatus;
 use std::alloc::{AllocError, Allocator};
@@ -284,7 +284,7 @@ impl<A: Allocator> Mail<A> {
 
 impl<A: Allocator + Clone> Mail<A> {
     /// Puts a message (SDS-TRANSFER) at the end. The rule of its destination says how long it is kept. Its
-    /// number and key must come after those of all items. The refusals are those of `post_refusal`, and
+    /// number and key must come after those of all items. The refusals are those of `judge_post`, and
     /// `NoMemory`. A refusal changes nothing.
     pub fn post(
         &mut self,
@@ -326,7 +326,7 @@ impl<A: Allocator + Clone> Mail<A> {
     /// Takes a delivery report (SDS-REPORT) on a message that waits, from the message's destination to
     /// its source. It removes the message if the status ends it, replaces any earlier report on it, and
     /// puts this one at the end. Its number and key must come after those of all items. The refusals are
-    /// those of `report_refusal`, and `NoMemory`. Replacing a report takes no memory. A refusal changes
+    /// those of `judge_report`, and `NoMemory`. Replacing a report takes no memory. A refusal changes
     /// nothing.
     pub fn report(
         &mut self,
@@ -380,8 +380,9 @@ impl<A: Allocator + Clone> Mail<A> {
     }
 
     /// Takes an acknowledgement (SDS-ACK) of a report that waits, from the report's destination to its
-    /// source. It removes the report, whatever status is acknowledged. The refusals are those of
-    /// `ack_refusal`. A refusal changes nothing. It takes no memory.
+    /// source. It removes the report, whatever status is acknowledged. The refusals are
+    /// `UnknownDestination`, `NotAttached` (the source) and `NoSuchMessage`, in this order. A refusal
+    /// changes nothing. It takes no memory.
     pub fn ack(&mut self, registry: &Registry<A>, envelope: &Envelope) -> Result<(), MailFault>
         ensures ok { OnOk result ((ack_refusal registry.now self.old envelope.now ≡ None) × (self.new ≡ acknowledged self.old envelope.now)) }
         ensures err { IfErr result (λ e. (ack_refusal registry.now self.old envelope.now ≡ Some e) × (self.new ≡ self.old)) }
@@ -392,8 +393,8 @@ impl<A: Allocator + Clone> Mail<A> {
     }
 
     /// An item was sent to its destination. It removes a message that asks for no report, and a report
-    /// that asks for no acknowledgement. Any other item waits on. The refusals are those of
-    /// `sent_refusal`. A refusal changes nothing. It takes no memory.
+    /// that asks for no acknowledgement. Any other item waits on. The refusals are `NotAttached` (the
+    /// destination) and `NoSuchMessage`, in this order. A refusal changes nothing. It takes no memory.
     pub fn sent(&mut self, registry: &Registry<A>, key: &Key) -> Result<(), MailFault>
         ensures ok { OnOk result ((sent_refusal registry.now self.old key.now ≡ None) × (self.new ≡ confirmed self.old key.now)) }
         ensures err { IfErr result (λ e. (sent_refusal registry.now self.old key.now ≡ Some e) × (self.new ≡ self.old)) }

@@ -12,7 +12,7 @@ ghost use Rattle.mailbox.specs.Inside.Places.{IsLow, IsBalanced, IsFirstOf, IsLa
 
 use crate::Key;
 use crate::place::Place;
-use prefix_tree::Steps;
+use base::Steps;
 use std::alloc::{AllocError, Allocator};
 use std::cmp::Ordering;
 use std::marker::Model;

@@ -12,7 +12,7 @@ ghost use Rattle.mailbox.specs.Inside.Places.{same_place, InOrder, is_due, is_du
 use crate::node::{self, Link, Node};
 use crate::place::Place;
 use crate::{Key, Moment, due};
-use prefix_tree::{Steps, TryCopy};
+use base::{Steps, TryCopy};
 use std::alloc::{AllocError, Allocator};
 use std::marker::{Brand, Model};
 use std::sync::ledger::{Blank, Ledger};

@@ -11,7 +11,7 @@ ghost use Rattle.registration.specs.Registered.{rule_of};
 ghost use Rattle.mailbox.specs.Mail.{without, waiting, message_item, report_item};
 ghost use Rattle.mailbox.specs.Judged.{keep_of, opening, waits_alone, item_in, report_opening};
 ghost use Rattle.mailbox.specs.Refusals.{unknown_refusal, absent_refusal, busy_refusal, missing_refusal, crowd_refusal};
-ghost use Rattle.mailbox.specs.Refusals.{restore_refusal, post_refusal, report_refusal, ack_refusal, sent_refusal, delete_refusal};
+ghost use Rattle.mailbox.specs.Refusals.{restore_refusal, post_refusal, report_refusal, ack_refusal, sent_refusal};
 
 use crate::items::{all_at, any_at, any_reported, count_at, count_left, count_reported, place_at};
 use crate::{Envelope, Item, Key, Kind, Mail, MailFault, Opening, ReportOpening};
@@ -59,13 +59,6 @@ fn crowd_refusal(room: u32, for_one: usize, in_all: usize) -> Option<MailFault>
 }
 
 impl<A: Allocator> Mail<A> {
-    /// Why `delete` would refuse this key: `NoSuchMessage`.
-    pub fn delete_refusal(&self, key: &Key) -> Option<MailFault>
-        ensures { result ≡ delete_refusal self.now key.now }
-    {
-        self.missing_refusal(key)
-    }
-
     fn missing_refusal(&self, key: &Key) -> Option<MailFault>
         ensures { result ≡ missing_refusal self.now key.now }
     {
@@ -131,15 +124,8 @@ impl<A: Allocator> Mail<A> {
 }
 
 impl<A: Allocator + Clone> Mail<A> {
-    /// Why `post` would refuse a message: `UnknownDestination`, `NotAttached` (the source),
-    /// `ReferenceBusy`, `MailboxFull` and `CentreFull`, in this order.
-    pub fn post_refusal(&self, registry: &Registry<A>, envelope: &Envelope) -> Option<MailFault>
-        ensures { (stamp : Stamp) (pdu : List Bool) → result ≡ post_refusal registry.now self.now (message_item registry.now envelope.now stamp pdu) }
-    {
-        self.judge_post(registry, envelope).err()
-    }
-
-    /// Judges a message as `post_refusal` does, and returns what `post_judged` needs. It takes no memory.
+    /// What `post_judged` needs, or why `post` would refuse the message: `UnknownDestination`, `NotAttached` (the
+    /// source), `ReferenceBusy`, `MailboxFull` and `CentreFull`, in this order. It takes no memory.
     pub fn judge_post(
         &self,
         registry: &Registry<A>,
@@ -164,23 +150,9 @@ impl<A: Allocator + Clone> Mail<A> {
         Ok(opening(items, key, rule))
     }
 
-    /// Why `report` would refuse a report of this status: `UnknownDestination`, `NotAttached` (the
-    /// source), `NoSuchMessage`, `MailboxFull` and `CentreFull`, in this order. It judges the last two on
-    /// the mail as the report would leave it.
-    pub fn report_refusal(
-        &self,
-        registry: &Registry<A>,
-        envelope: &Envelope,
-        status: DeliveryStatus,
-    ) -> Option<MailFault>
-        ensures { (stamp : Stamp) (pdu : List Bool)
-            → result ≡ report_refusal registry.now self.now envelope.now status (report_item registry.now envelope.now stamp pdu) }
-    {
-        self.judge_report(registry, envelope, status).err()
-    }
-
-    /// Judges a report as `report_refusal` does, and returns what `report_judged` needs. It takes no
-    /// memory.
+    /// What `report_judged` needs, or why `report` would refuse a report of this status: `UnknownDestination`,
+    /// `NotAttached` (the source), `NoSuchMessage`, `MailboxFull` and `CentreFull`, in this order. It judges the last
+    /// two on the mail as the report would leave it. It takes no memory.
     pub fn judge_report(
         &self,
         registry: &Registry<A>,
@@ -216,15 +188,8 @@ impl<A: Allocator + Clone> Mail<A> {
         })
     }
 
-    /// Why `ack` would refuse an acknowledgement: `UnknownDestination`, `NotAttached` (the source)
-    /// and `NoSuchMessage`, in this order.
-    pub fn ack_refusal(&self, registry: &Registry<A>, envelope: &Envelope) -> Option<MailFault>
-        ensures { result ≡ ack_refusal registry.now self.now envelope.now }
-    {
-        self.judge_ack(registry, envelope).err()
-    }
-
-    /// Whether only the report that is acknowledged waits for its destination, or why `ack` would refuse.
+    /// Whether only the report that is acknowledged waits for its destination, or why `ack` would refuse:
+    /// `UnknownDestination`, `NotAttached` (the source) and `NoSuchMessage`, in this order.
     pub(crate) fn judge_ack(
         &self,
         registry: &Registry<A>,
@@ -245,7 +210,7 @@ impl<A: Allocator + Clone> Mail<A> {
 
     /// Why `sent` would refuse this key: `NotAttached` (the destination) and `NoSuchMessage`, in this
     /// order.
-    pub fn sent_refusal(&self, registry: &Registry<A>, key: &Key) -> Option<MailFault>
+    pub(crate) fn sent_refusal(&self, registry: &Registry<A>, key: &Key) -> Option<MailFault>
         ensures { result ≡ sent_refusal registry.now self.now key.now }
     {
         if let Some(fault) = absent_refusal(registry, key.destination) {

@@ -88,20 +88,21 @@ pub fn pdu<A: Allocator>(alloc: A, call: Call) -> Result<Bits<A>, Fail> {
     Ok(parse_bits(alloc, text(call).as_bytes())?)
 }
 
-/// Why the call would be refused.
-pub fn refusal<A: Allocator + Clone>(
+/// Whether a call that is judged before it is made would be refused for this cause. The other calls are never judged alone.
+pub fn is_judged<A: Allocator + Clone>(
     registry: &Registry<A>,
     mail: &Mail<A>,
     made: &Made,
-) -> Option<MailFault> {
+    want: Option<MailFault>,
+) -> bool {
     let envelope = &made.envelope;
     match made.call {
-        Call::Post(_) => mail.post_refusal(registry, envelope),
-        Call::Report(code, _) => mail.report_refusal(registry, envelope, DeliveryStatus::new(code)),
-        Call::Ack => mail.ack_refusal(registry, envelope),
-        Call::Sent(kind) => mail.sent_refusal(registry, &envelope.key(kind)),
-        Call::Delete(kind) => mail.delete_refusal(&envelope.key(kind)),
-        Call::Expire(_) => None,
+        Call::Post(_) => mail.judge_post(registry, envelope).err() == want,
+        Call::Report(code, _) => {
+            let status = DeliveryStatus::new(code);
+            mail.judge_report(registry, envelope, status).err() == want
+        }
+        Call::Ack | Call::Sent(_) | Call::Delete(_) | Call::Expire(_) => true,
     }
 }
 

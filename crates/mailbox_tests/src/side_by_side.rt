@@ -1,10 +1,10 @@
 //! The mail beside the plain list.
 
-use crate::fixture::{Call, Made, called, envelope, limits, pdu, radio, refusal, registry, text};
+use crate::fixture::{Call, Made, called, envelope, is_judged, limits, pdu, radio, registry, text};
 use crate::plain::{Name, PlainMail, Waits};
+use base::TryCopy;
 use identity::{Bits, parse_bits};
 use mailbox::{Item, Kind, Mail, Moment, Stamp};
-use prefix_tree::TryCopy;
 use registration::Registry;
 use std::alloc::Global;
 use std::test::Fail;
@@ -93,7 +93,7 @@ fn is_answered_alike(
     pdu: Bits<Global>,
 ) -> bool {
     let want = both.plain.refusal(made.call, name);
-    if refusal(registry, &both.mail, made) != want {
+    if !is_judged(registry, &both.mail, made, want) {
         return false;
     }
     if called(registry, &mut both.mail, made, pdu).err() != want {

@@ -2,9 +2,9 @@
 
 use crate::fixture::{Call, Made, called, envelope, limits, pdu, radio, registry};
 use crate::to_group::{MESSAGE, post_group};
+use base::TryCopy;
 use linked_list_allocator::LocalHeap;
 use mailbox::{Mail, MailFault, Moment, Stamp};
-use prefix_tree::TryCopy;
 use registration::Registry;
 use std::alloc::Global;
 use std::test::Fail;

@@ -1,5 +1,6 @@
 -- A part of a PDU that is cut off: it is read as before, or bits are missing.
-use Rattle.std.proofs.Common.{◌≡◌, ℕ, zero, suc, ◌≤◌, Bool, true, false, cond, List, [], ◌∷◌, ◌++◌, length, take, drop, Option, Some, None, Result, Ok, Err, refl, sym, ap, subst, ◌∙◌, arith, ltb, length-append, append_assoc, ◌⊎◌, inl, inr}
+use Rattle.std.proofs.Common.{◌≡◌, ℕ, zero, suc, ◌≤◌, Bool, true, false, cond, List, [], ◌∷◌, ◌++◌, length, take, drop, Option, Some, None, Result}
+use Rattle.std.proofs.Common.{Ok, Err, refl, sym, ap, subst, ◌∙◌, arith, ltb, length-append, append_assoc, ◌⊎◌, inl, inr}
 use Rattle.identity.specs.Number.{number, num}
 use Rattle.mm_pdus.specs.declared.fault.MmFault.{MmFault}
 use Rattle.mm_pdus.specs.declared.fault.MmFault.TheVariants.{Short}
@@ -42,7 +43,10 @@ module _ (more : List Bool) where
             let rest = drop w bits in
             let read : field_at w bits ≡ Ok (v, rest) = rw t refl in
             let is = field_takes w bits v rest read in
-            let same : (v, rest ++ more) ≡ x = ok_is (v, rest ++ more) x (sym (field_again w v (rest ++ more) is.1) ∙ ap (field_at w) (sym (ap (λ (q : List Bool). q ++ more) is.0 ∙ append_assoc (num w v) rest more)) ∙ e) in
+            let same : (v, rest ++ more) ≡ x =
+            ok_is (v, rest ++ more) x
+            (sym (field_again w v (rest ++ more) is.1) ∙
+            ap (field_at w) (sym (ap (λ (q : List Bool). q ++ more) is.0 ∙ append_assoc (num w v) rest more)) ∙ e) in
             inr ((v, rest), refl, sym same)
       ] refl
 
@@ -55,7 +59,10 @@ module _ (more : List Bool) where
             let rest = drop w bits in
             let read : piece_at w bits ≡ Ok (v, rest) = rw t refl in
             let is = piece_takes w bits v rest read in
-            let same : (v, rest ++ more) ≡ x = ok_is (v, rest ++ more) x (sym (piece_again w v (rest ++ more) is.1) ∙ ap (piece_at w) (sym (ap (λ (q : List Bool). q ++ more) is.0 ∙ append_assoc v rest more)) ∙ e) in
+            let same : (v, rest ++ more) ≡ x =
+            ok_is (v, rest ++ more) x
+            (sym (piece_again w v (rest ++ more) is.1) ∙ ap (piece_at w) (sym (ap (λ (q : List Bool). q ++ more) is.0 ∙ append_assoc v rest more))
+            ∙ e) in
             inr ((v, rest), refl, sym same)
       ] refl
 
@@ -105,14 +112,16 @@ module _ (more : List Bool) where
     elements_cut zero m s bits x fits e = inl refl
     elements_cut (suc n) zero s bits x fits e = absurd cc
     elements_cut (suc n) (suc m) s bits x fits e =
-        cut_bind value_on value_on (element_at bits) (element_at (bits ++ more)) (next_into n s) (next_into m s) x (element_cut bits) (λ y is h. by_next (λ t rest less k. elements_cut n m t rest x less k) y.0 y.1 is h) e
+        cut_bind value_on value_on (element_at bits) (element_at (bits ++ more)) (next_into n s) (next_into m s) x (element_cut bits)
+        (λ y is h. by_next (λ t rest less k. elements_cut n m t rest x less k) y.0 y.1 is h) e
       where
         by_next : ((t : S) (rest : List Bool) → length rest ≤ n → elements_at into m t (rest ++ more) ≡ Ok x → Cut value_on (elements_at into n t rest) x)
             → (next : Option Element) (rest : List Bool) → element_at bits ≡ Ok (next, rest) → next_into m s (next, rest ++ more) ≡ Ok x → Cut value_on (next_into n s (next, rest)) x
         by_next later None rest is h = inr ((s, rest), refl, sym (ok_is (s, rest ++ more) x h))
         by_next later (Some element) rest is h =
             let less = element_shorter bits (Some element, rest) is in
-            cut_bind (λ (t : S). t) value_on (into s element) (into s element) (λ t. elements_at into n t rest) (λ t. elements_at into m t (rest ++ more)) x (λ t k. inr (t, k, refl)) (λ t taken k. later t rest (omega arith) k) h
+            cut_bind (λ (t : S). t) value_on (into s element) (into s element) (λ t. elements_at into n t rest)
+            (λ t. elements_at into m t (rest ++ more)) x (λ t k. inr (t, k, refl)) (λ t taken k. later t rest (omega arith) k) h
 
   pub extension_cut : (ws : List ℕ) (bits left : List Bool) → extension_at ws (bits ++ more) ≡ Ok left → Cut on (extension_at ws bits) left
   unfolding extension_at
@@ -121,7 +130,9 @@ module _ (more : List Bool) where
   extension_cut ws (true ∷ bits) left e =
       let after : List Bool → Result (List Bool) MmFault = λ rest. elements_at ignore (length rest) tt rest >>= λ ended. Ok ended.1 in
       cut_bind on on (optionals_at ws bits) (optionals_at ws (bits ++ more)) after after left (optionals_cut ws bits) (λ y is h.
-      cut_bind value_on on (elements_at ignore (length y) tt y) (elements_at ignore (length (y ++ more)) tt (y ++ more)) (λ ended. Ok ended.1) (λ ended. Ok ended.1) left (λ x k. elements_cut ignore (length y) (length (y ++ more)) tt y x (omega arith) k) (λ ended is k. inr (ended.1, refl, sym (ok_is (ended.1 ++ more) left k))) h) e
+      cut_bind value_on on (elements_at ignore (length y) tt y) (elements_at ignore (length (y ++ more)) tt (y ++ more)) (λ ended. Ok ended.1)
+      (λ ended. Ok ended.1) left (λ x k. elements_cut ignore (length y) (length (y ++ more)) tt y x (omega arith) k)
+      (λ ended is k. inr (ended.1, refl, sym (ok_is (ended.1 ++ more) left k))) h) e
 
 -- ---- PDUs cut off
 

@@ -130,4 +130,5 @@ pub missing : {A : Type 0} (p : MmDown A) (bits rest : List Bool) (b : Bool) →
 unfolding reading_down
 missing {A} p bits rest b spells =
     let all : down_at group_down_at (bits ++ b ∷ rest) ≡ Ok ((p, true), []) = ap (down_at group_down_at) (spells.2 ∙ sym (append-nil (down_text spells.1 p))) ∙ down_again p spells.1 [] spells.0 in
-    ap (λ (r : Result (MmDown A × Bool) MmFault). r >>= λ read. needs read.1 >>= λ said. Ok read.0) (whole_missing (down_at group_down_at bits) (p, true) b rest (down_cut (b ∷ rest) bits ((p, true), []) all))
+    ap (λ (r : Result (MmDown A × Bool) MmFault). r >>= λ read. needs read.1 >>= λ said. Ok read.0)
+    (whole_missing (down_at group_down_at bits) (p, true) b rest (down_cut (b ∷ rest) bits ((p, true), []) all))

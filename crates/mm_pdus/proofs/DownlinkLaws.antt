@@ -5,6 +5,7 @@ use Rattle.std.specs.List.{AllByRecursion}
 use Rattle.std.specs.Prelude.{IfOk}
 use Rattle.std.proofs.lemmas.Bool.{eqb-true, ne_eqb, lt-ltb}
 use Rattle.std.proofs.lemmas.List.{append-nil}
+use Rattle.base.proofs.Lists.{regroup_four, regroup_five}
 use Rattle.identity.specs.Number.{num}
 use Rattle.mm_pdus.specs.declared.fault.MmFault.{MmFault}
 use Rattle.mm_pdus.specs.declared.fault.MmFault.TheVariants.{Trailing, UnknownType, BadElement}
@@ -25,12 +26,6 @@ use Rattle.mm_pdus.proofs.ValueLaws.{update_named, update_of-update_number, upda
 use Rattle.mm_pdus.proofs.FieldLaws.{known_takes, clear_takes, field_takes, field_again, piece_takes, piece_again}
 use Rattle.mm_pdus.proofs.GroupLaws as groups
 use Rattle.mm_pdus.proofs.GroupSteps.{group_down_short, groups_body_short}
-
-regroup3 : (a b c d : List Bool) → ((a ++ b) ++ c) ++ d ≡ a ++ (b ++ (c ++ d))
-regroup3 a b c d = simp append_assoc
-
-regroup4 : (a b c d e : List Bool) → (((a ++ b) ++ c) ++ d) ++ e ≡ a ++ (b ++ (c ++ (d ++ e)))
-regroup4 a b c d e = simp append_assoc
 
 needs_takes : (b : Bool) (u : Unit {0}) → needs b ≡ Ok u → b ≡ true
 needs_takes true u h = refl
@@ -130,8 +125,14 @@ answers_again (g ∷ items) rest fits =
     let short = groups_body_short group_down all group_down_short fits.0 in
     let some : ltb 0 (length all) ≡ true = lt-ltb 0 (length all) (omega arith) in
     ap (λ (t : List Bool). answers_at group_down_at (t ++ rest)) (one_text g items)
-    ∙ ap (λ (t : List Bool). answers_at group_down_at (true ∷ true ∷ t)) (regroup4 (num 4 identity_downlink) (num 11 (length body)) body (false ∷ []) rest)
-    ∙ rw (field_again 4 identity_downlink (num 11 (length body) ++ (body ++ (false ∷ rest))) (omega arith), field_again 11 (length body) (body ++ (false ∷ rest)) short, piece_again (length body) body (false ∷ rest) refl, groups.body_again groups.down_text 0 all fits.1 (omega (arith, fits.0)), some) refl
+    ∙ ap (λ (t : List Bool). answers_at group_down_at (true ∷ true ∷ t)) (regroup_five (num 4 identity_downlink) (num 11 (length body)) body (false ∷ []) rest)
+    ∙ rw (
+      field_again 4 identity_downlink (num 11 (length body) ++ (body ++ (false ∷ rest))) (omega arith),
+      field_again 11 (length body) (body ++ (false ∷ rest)) short,
+      piece_again (length body) body (false ∷ rest) refl,
+      groups.body_again groups.down_text 0 all fits.1 (omega (arith, fits.0)),
+      some,
+    ) refl
 
 beq-not : (b : Bool) → beq (not b) b ≡ false
 beq-not true = refl
@@ -158,7 +159,9 @@ module _ {A : Type 0} where
       let is_update = update_accepted-accept_of k.0 b.0 (known_takes (accept_of k.0) b.0 b.1) in
       let code : num 3 a.0.0 ≡ num 3 (update_number (update_accepted b.0)) = ap (num 3) (update_named a.0.0 k.0 (known_takes (update_of a.0.0) k.0 k.1) ∙ sym (ap update_number is_update)) in
       let t2 = clear_takes a.0.1 d.0 d.1 in
-      let start : num 4 5 ++ bits ≡ (num 4 5 ++ num 3 (update_number (update_accepted b.0))) ++ a.0.1 = join (num 4 5 ++ bits) (num 4 5) bits (num 3 (update_number (update_accepted b.0))) a.0.1 refl (t1.0 ∙ ap (λ (t : List Bool). t ++ a.0.1) code) in
+      let start : num 4 5 ++ bits ≡ (num 4 5 ++ num 3 (update_number (update_accepted b.0))) ++ a.0.1 =
+      join (num 4 5 ++ bits) (num 4 5) bits (num 3 (update_number (update_accepted b.0))) a.0.1 refl
+      (t1.0 ∙ ap (λ (t : List Bool). t ++ a.0.1) code) in
       let is : num 4 5 ++ bits ≡ accept_text b.0 ++ d.0 = join (num 4 5 ++ bits) (num 4 5 ++ num 3 (update_number (update_accepted b.0))) a.0.1 (false ∷ []) d.0 start t2 in
       subst (Taken (num 4 5 ++ bits)) (ok_is ((Accept b.0, true), d.0) x d.2) (λ so. (accept_text b.0, is, (tt, false, refl)))
 
@@ -178,8 +181,10 @@ module _ {A : Type 0} where
       let t3 = clear_takes b.0.1 d.0 d.1 in
       let t4 = clear_takes d.0 e.0 e.1 in
       let code : num 3 a.0.0 ≡ num 3 (update_number update) = ap (num 3) (update_named a.0.0 update (known_takes (update_of a.0.0) update k.1)) in
-      let start : num 4 7 ++ bits ≡ (num 4 7 ++ num 3 (update_number update)) ++ a.0.1 = join (num 4 7 ++ bits) (num 4 7) bits (num 3 (update_number update)) a.0.1 refl (t1.0 ∙ ap (λ (t : List Bool). t ++ a.0.1) code) in
-      let middle : num 4 7 ++ bits ≡ (num 4 7 ++ num 3 (update_number update) ++ num 5 b.0.0) ++ b.0.1 = join (num 4 7 ++ bits) (num 4 7 ++ num 3 (update_number update)) a.0.1 (num 5 b.0.0) b.0.1 start t2.0 in
+      let start : num 4 7 ++ bits ≡ (num 4 7 ++ num 3 (update_number update)) ++ a.0.1 =
+      join (num 4 7 ++ bits) (num 4 7) bits (num 3 (update_number update)) a.0.1 refl (t1.0 ∙ ap (λ (t : List Bool). t ++ a.0.1) code) in
+      let middle : num 4 7 ++ bits ≡ (num 4 7 ++ num 3 (update_number update) ++ num 5 b.0.0) ++ b.0.1 =
+      join (num 4 7 ++ bits) (num 4 7 ++ num 3 (update_number update)) a.0.1 (num 5 b.0.0) b.0.1 start t2.0 in
       let last : b.0.1 ≡ (false ∷ false ∷ []) ++ e.0 = t3 ∙ ap (λ (t : List Bool). false ∷ t) t4 in
       let is : num 4 7 ++ bits ≡ reject_text update b.0.0 ++ e.0 = join (num 4 7 ++ bits) (num 4 7 ++ num 3 (update_number update) ++ num 5 b.0.0) b.0.1 (false ∷ false ∷ []) e.0 middle last in
       subst (Taken (num 4 7 ++ bits)) (ok_is ((Reject update b.0.0, true), e.0) x e.2) (λ so. (reject_text update b.0.0, is, (t2.1, false, refl)))
@@ -192,14 +197,18 @@ module _ {A : Type 0} where
       let made : List GroupDown × List Bool → Result ((MmDown A × Bool) × List Bool) MmFault = λ items. Ok ((Acknowledge items.0, beq rejected (rejects items.0)), items.1) in
       let a = bind_ok (answers_at group_down_at bits) made x h in
       let t = answers_taken bits a.0 a.1 in
-      let is : num 4 11 ++ rejected ∷ reserved ∷ bits ≡ (num 4 11 ++ rejected ∷ reserved ∷ answers a.0.0) ++ a.0.1 = ap (λ (t : List Bool). num 4 11 ++ rejected ∷ reserved ∷ t) t.0 ∙ sym (append_assoc (num 4 11) (rejected ∷ reserved ∷ answers a.0.0) a.0.1) in
+      let is : num 4 11 ++ rejected ∷ reserved ∷ bits ≡ (num 4 11 ++ rejected ∷ reserved ∷ answers a.0.0) ++ a.0.1 =
+      ap (λ (t : List Bool). num 4 11 ++ rejected ∷ reserved ∷ t) t.0 ∙
+      sym (append_assoc (num 4 11) (rejected ∷ reserved ∷ answers a.0.0) a.0.1) in
       subst (Taken (num 4 11 ++ rejected ∷ reserved ∷ bits)) (ok_is ((Acknowledge a.0.0, beq rejected (rejects a.0.0)), a.0.1) x a.2)
       (λ so. (acknowledge_text reserved a.0.0, is ∙ ap (λ (b : Bool). (num 4 11 ++ b ∷ reserved ∷ answers a.0.0) ++ a.0.1) (beq-true rejected (rejects a.0.0) so), (t.1, reserved, refl)))
 
   down_takes : (bits : List Bool) (x : (MmDown A × Bool) × List Bool) → down_at {A = A} group_down_at bits ≡ Ok x → Taken bits x
   unfolding down_at
   down_takes bits x h =
-      let a = bind_ok (field_at 4 bits) (λ kind. cond (eqb kind.0 5) (accept_at kind.1) (cond (eqb kind.0 7) (reject_at kind.1) (cond (eqb kind.0 11) (acknowledge_at group_down_at kind.1) (Err UnknownType)))) x h in
+      let a = bind_ok (field_at 4 bits)
+      (λ kind. cond (eqb kind.0 5) (accept_at kind.1)
+      (cond (eqb kind.0 7) (reject_at kind.1) (cond (eqb kind.0 11) (acknowledge_at group_down_at kind.1) (Err UnknownType)))) x h in
       let t = field_takes 4 bits a.0.0 a.0.1 a.1 in
       let is_kind : (k : ℕ) → eqb a.0.0 k ≡ true → num 4 k ++ a.0.1 ≡ bits = λ k e. ap (λ (n : ℕ). num 4 n ++ a.0.1) (sym (eqb-true a.0.0 k e)) ∙ sym t.0 in
       let taken : (k : ℕ) → eqb a.0.0 k ≡ true → Taken (num 4 k ++ a.0.1) x → Taken bits x = λ k e. subst (λ (b : List Bool). Taken b x) (is_kind k e) in
@@ -219,12 +228,22 @@ module _ {A : Type 0} where
   down_again (Accept update) reserved rest fits =
       let is = update_accepted update in
       let small = update_number-lt is in
-      ap (down_at group_down_at) (regroup3 (num 4 5) (num 3 (update_number is)) (false ∷ []) rest)
-      ∙ rw (field_again 4 5 (num 3 (update_number is) ++ (false ∷ rest)) (omega arith), field_again 3 (update_number is) (false ∷ rest) (omega arith), update_of-update_number is, accept_of-update_accepted update) refl
+      ap (down_at group_down_at) (regroup_four (num 4 5) (num 3 (update_number is)) (false ∷ []) rest)
+      ∙ rw (
+        field_again 4 5 (num 3 (update_number is) ++ (false ∷ rest)) (omega arith),
+        field_again 3 (update_number is) (false ∷ rest) (omega arith),
+        update_of-update_number is,
+        accept_of-update_accepted update,
+      ) refl
   down_again (Reject update cause) reserved rest fits =
       let small = update_number-lt update in
-      ap (down_at group_down_at) (regroup4 (num 4 7) (num 3 (update_number update)) (num 5 cause) (false ∷ false ∷ []) rest)
-      ∙ rw (field_again 4 7 (num 3 (update_number update) ++ (num 5 cause ++ (false ∷ false ∷ rest))) (omega arith), field_again 3 (update_number update) (num 5 cause ++ (false ∷ false ∷ rest)) (omega arith), field_again 5 cause (false ∷ false ∷ rest) fits, update_of-update_number update) refl
+      ap (down_at group_down_at) (regroup_five (num 4 7) (num 3 (update_number update)) (num 5 cause) (false ∷ false ∷ []) rest)
+      ∙ rw (
+        field_again 4 7 (num 3 (update_number update) ++ (num 5 cause ++ (false ∷ false ∷ rest))) (omega arith),
+        field_again 3 (update_number update) (num 5 cause ++ (false ∷ false ∷ rest)) (omega arith),
+        field_again 5 cause (false ∷ false ∷ rest) fits,
+        update_of-update_number update,
+      ) refl
   down_again (Acknowledge items) reserved rest fits =
       ap (down_at group_down_at) (append_assoc (num 4 11) (rejects items ∷ reserved ∷ answers items) rest)
       ∙ rw (field_again 4 11 (rejects items ∷ reserved ∷ (answers items ++ rest)) (omega arith), answers_again items rest fits, beq-refl (rejects items)) refl
@@ -260,7 +279,8 @@ module _ {A : Type 0} where
   pub trailing : (p : MmDown A) (bits rest : List Bool) (b : Bool) → SpellsDown p bits → reading_down {A = A} (bits ++ b ∷ rest) ≡ Err Trailing
   unfolding reading_down
   trailing p bits rest b spells =
-      let read : down_at group_down_at (bits ++ b ∷ rest) ≡ Ok ((p, true), b ∷ rest) = ap (λ (t : List Bool). down_at group_down_at (t ++ b ∷ rest)) spells.2 ∙ down_again p spells.1 (b ∷ rest) spells.0 in
+      let read : down_at group_down_at (bits ++ b ∷ rest) ≡ Ok ((p, true), b ∷ rest) =
+      ap (λ (t : List Bool). down_at group_down_at (t ++ b ∷ rest)) spells.2 ∙ down_again p spells.1 (b ∷ rest) spells.0 in
       rw (ap whole read ∙ whole_after (p, true) b rest) refl
 
   pub other_type : (kind : ℕ) (rest : List Bool) → kind < 16 → (kind ≡ 5 → ⊥) → (kind ≡ 7 → ⊥) → (kind ≡ 11 → ⊥) → reading_down {A = A} (num 4 kind ++ rest) ≡ Err UnknownType

@@ -26,7 +26,8 @@ unfolding element_at
 element_shorter [] x e = absurd cc
 element_shorter (false ∷ bits) x e = let rest : bits ≡ x.1 = ok_rest None bits x e in omega (arith, ap length rest)
 element_shorter (true ∷ bits) x e =
-    let a = bind_ok (field_at 4 bits) (λ identifier. field_at 11 identifier.1 >>= λ len. piece_at len.0 len.1 >>= λ body. Ok (Some (record { identifier = identifier.0; body = body.0 }), body.1)) x e in
+    let a = bind_ok (field_at 4 bits) (λ identifier. field_at 11 identifier.1 >>= λ len. piece_at len.0 len.1 >>= λ body.
+    Ok (Some (record { identifier = identifier.0; body = body.0 }), body.1)) x e in
     let b = bind_ok (field_at 11 a.0.1) (λ len. piece_at len.0 len.1 >>= λ body. Ok (Some (record { identifier = a.0.0; body = body.0 }), body.1)) x a.2 in
     let d = bind_ok (piece_at b.0.0 b.0.1) (λ body. Ok (Some (record { identifier = a.0.0; body = body.0 }), body.1)) x b.2 in
     let rest : d.0.1 ≡ x.1 = ok_rest (Some (record { identifier = a.0.0; body = d.0.0 })) d.0.1 x d.2 in
@@ -59,12 +60,14 @@ module _ {S : Type 0} (into : S → Element → Result S MmFault) where
       follow_same (elements_at into m) (elements_at into n) s bits (element_at bits) refl (λ t rest lt. elements_turns m n t rest (omega arith) (omega arith))
 
   -- one element on
-  pub elements_on : (s t : S) (bits rest : List Bool) (e : Element) → element_at bits ≡ Ok (Some e, rest) → into s e ≡ Ok t → elements_at into (length bits) s bits ≡ elements_at into (length rest) t rest
+  pub elements_on : (s t : S) (bits rest : List Bool) (e : Element) → element_at bits ≡ Ok (Some e, rest) → into s e ≡ Ok t →
+      elements_at into (length bits) s bits ≡ elements_at into (length rest) t rest
   unfolding elements_at element_at
   elements_on s t [] rest e read taken = absurd cc
   elements_on s t (b ∷ bits) rest e read taken =
       let lt = element_shorter (b ∷ bits) (Some e, rest) read in
-      ap (follow (elements_at into (length bits)) s) read ∙ ap (λ (r : Result S MmFault). r >>= λ t. elements_at into (length bits) t rest) taken ∙ elements_turns (length bits) (length rest) t rest (omega arith) (omega arith)
+      ap (follow (elements_at into (length bits)) s) read ∙ ap (λ (r : Result S MmFault). r >>= λ t. elements_at into (length bits) t rest) taken ∙
+      elements_turns (length bits) (length rest) t rest (omega arith) (omega arith)
 
   pub elements_end : (s : S) (bits rest : List Bool) → element_at bits ≡ Ok (None, rest) → elements_at into (length bits) s bits ≡ Ok (s, rest)
   unfolding elements_at element_at

@@ -114,7 +114,9 @@ all_of_bits r read = after _ _ read (λ p. either _ _ _ (ends _) trailing)
 address : (bits : List Bool) → OfBits (address_at bits)
 unfolding address_at
 address bits =
-    after _ _ (field 2 bits) (λ kind. either _ _ _ unsupported (after _ _ (field 24 kind.1) (λ gssi. either _ _ _ (ends _) (after _ _ (field 10 gssi.1) (λ mcc. after _ _ (field 14 mcc.1) (λ mnc. ends _))))))
+    after _ _ (field 2 bits)
+    (λ kind. either _ _ _ unsupported
+    (after _ _ (field 24 kind.1) (λ gssi. either _ _ _ (ends _) (after _ _ (field 10 gssi.1) (λ mcc. after _ _ (field 14 mcc.1) (λ mnc. ends _))))))
 
 group_up : (bits : List Bool) → OfBits (group_up_at bits)
 unfolding group_up_at
@@ -173,7 +175,10 @@ module _ {A : Type 0} where
   demand : (bits : List Bool) → OfBits (demand_at {A = A} bits)
   unfolding demand_at
   demand bits =
-      after _ _ (field 3 bits) (λ number. after _ _ (known_of_bits (update_of number.0)) (λ update. after _ _ (bit number.1) (λ append. after _ _ (optional 10 append.1) (λ rest. after _ _ (extension demand_widths rest) (λ rest. ends _)))))
+      after _ _ (field 3 bits)
+      (λ number. after _ _ (known_of_bits (update_of number.0))
+      (λ update. after _ _ (bit number.1)
+      (λ append. after _ _ (optional 10 append.1) (λ rest. after _ _ (extension demand_widths rest) (λ rest. ends _)))))
 
   groups_up : (bits : List Bool) → OfBits (groups_up_at {A = A} group_up_at bits)
   unfolding groups_up_at
@@ -202,12 +207,16 @@ answers bits = after _ _ (bit bits) (λ more. either _ _ _ (one_element more.1) 
 module _ {A : Type 0} where
   accept : (bits : List Bool) → OfBits (accept_at {A = A} bits)
   unfolding accept_at
-  accept bits = after _ _ (field 3 bits) (λ number. after _ _ (known_of_bits (update_of number.0)) (λ update. after _ _ (known_of_bits (accept_of update)) (λ kind. after _ _ (clear number.1) (λ rest. ends _))))
+  accept bits = after _ _ (field 3 bits)
+      (λ number. after _ _ (known_of_bits (update_of number.0))
+      (λ update. after _ _ (known_of_bits (accept_of update)) (λ kind. after _ _ (clear number.1) (λ rest. ends _))))
 
   reject : (bits : List Bool) → OfBits (reject_at {A = A} bits)
   unfolding reject_at
   reject bits =
-      after _ _ (field 3 bits) (λ number. after _ _ (known_of_bits (update_of number.0)) (λ update. after _ _ (field 5 number.1) (λ cause. after _ _ (clear cause.1) (λ rest. after _ _ (clear rest) (λ rest. ends _)))))
+      after _ _ (field 3 bits)
+      (λ number. after _ _ (known_of_bits (update_of number.0))
+      (λ update. after _ _ (field 5 number.1) (λ cause. after _ _ (clear cause.1) (λ rest. after _ _ (clear rest) (λ rest. ends _)))))
 
   acknowledge : (bits : List Bool) → OfBits (acknowledge_at {A = A} group_down_at bits)
   unfolding acknowledge_at

@@ -1,9 +1,11 @@
 -- What is read of a field is what was written, and what was written is read.
-use Rattle.std.proofs.Common.{◌≡◌, ℕ, ◌^◌, ◌<◌, ◌≤◌, Bool, true, false, List, [], ◌∷◌, ◌++◌, length, take, drop, Option, Some, None, Result, Ok, refl, sym, ap, subst, ◌∙◌, arith, ltb, length-append, append_assoc}
+use Rattle.std.proofs.Common.{◌≡◌, ℕ, ◌^◌, ◌<◌, ◌≤◌, Bool, true, false, List, [], ◌∷◌, ◌++◌, length, take, drop, Option, Some, None, Result, Ok, refl}
+use Rattle.std.proofs.Common.{sym, ap, subst, ◌∙◌, arith, ltb, length-append, append_assoc}
 use Rattle.std.specs.Prelude.{IfSome}
 use Rattle.std.specs.List.{flat_map}
 use Rattle.std.proofs.lemmas.Bool.{le-ltb, ltb-false}
 use Rattle.std.proofs.lemmas.List.{take_at, drop_at, take-append-drop, length-take-le}
+use Rattle.base.proofs.Lists.{regroup_four}
 use Rattle.identity.specs.Number.{num, number}
 use Rattle.identity.specs.Inside.NumberLaws.{length-num, number-num, num-number, number-lt}
 use Rattle.mm_pdus.specs.declared.fault.MmFault.{MmFault}
@@ -101,9 +103,6 @@ made identifier body = Ok (Some (record { identifier = identifier.0; body = body
 none_some : (e : Element) → ◌≡◌ {A = Option Element} None (Some e) → ⊥
 none_some e h = cc
 
-regroup : (a b c d : List Bool) → ((a ++ b) ++ c) ++ d ≡ a ++ (b ++ (c ++ d))
-regroup a b c d = simp append_assoc
-
 pub element_takes : (bits : List Bool) (e : Element) (rest : List Bool) → element_at bits ≡ Ok (Some e, rest) → (bits ≡ element e ++ rest) × IsElement e
 unfolding element_at made
 element_takes [] e rest h = absurd cc
@@ -140,5 +139,11 @@ element_ends (true ∷ bits) rest h =
 pub element_again : (e : Element) (rest : List Bool) → IsElement e → element_at (element e ++ rest) ≡ Ok (Some e, rest)
 unfolding element_at
 element_again e rest fits =
-    let regrouped : element e ++ rest ≡ true ∷ (num 4 e.identifier ++ (num 11 (length e.body) ++ (e.body ++ rest))) = ap (λ (t : List Bool). true ∷ t) (regroup (num 4 e.identifier) (num 11 (length e.body)) e.body rest) in
-    ap element_at regrouped ∙ rw (field_again 4 e.identifier (num 11 (length e.body) ++ (e.body ++ rest)) fits.identifier, field_again 11 (length e.body) (e.body ++ rest) fits.body, piece_again (length e.body) e.body rest refl) refl
+    let regrouped : element e ++ rest ≡ true ∷ (num 4 e.identifier ++ (num 11 (length e.body) ++ (e.body ++ rest))) =
+    ap (λ (t : List Bool). true ∷ t) (regroup_four (num 4 e.identifier) (num 11 (length e.body)) e.body rest) in
+    ap element_at regrouped ∙
+    rw (
+      field_again 4 e.identifier (num 11 (length e.body) ++ (e.body ++ rest)) fits.identifier,
+      field_again 11 (length e.body) (e.body ++ rest) fits.body,
+      piece_again (length e.body) e.body rest refl,
+    ) refl

@@ -1,8 +1,10 @@
 -- The two laws for groups: what is read is spelt so, and what is spelt so is read.
-use Rattle.std.proofs.Common.{◌≡◌, ℕ, zero, suc, ◌+◌, ◌^◌, ◌<◌, ◌≤◌, Bool, true, false, cond, List, [], ◌∷◌, ◌++◌, length, Result, Ok, Err, refl, sym, ap, subst, ◌∙◌, arith, eqb, ltb, append_assoc, inl, inr}
+use Rattle.std.proofs.Common.{◌≡◌, ℕ, zero, suc, ◌+◌, ◌^◌, ◌<◌, ◌≤◌, Bool, true, false, cond, List, [], ◌∷◌, ◌++◌, length, Result, Ok, Err, refl, sym}
+use Rattle.std.proofs.Common.{ap, subst, ◌∙◌, arith, eqb, ltb, append_assoc, inl, inr}
 use Rattle.std.specs.List.{flat_map, AllByRecursion}
 use Rattle.std.proofs.lemmas.Bool.{eqb-true, eqb-false, ltb-false, le-ltb}
 use Rattle.std.proofs.lemmas.List.{append-nil, nil_from_length}
+use Rattle.base.proofs.Lists.{regroup_four, regroup_five}
 use Rattle.identity.specs.Number.{num}
 use Rattle.identity.specs.Identity.{identity_number, mcc_of, mnc_of, ssi_of}
 use Rattle.mm_pdus.specs.declared.fault.MmFault.{MmFault}
@@ -18,7 +20,8 @@ use Rattle.mm_pdus.specs.Groups.{address, IsAddress, group_up, IsGroupUp, group_
 use Rattle.mm_pdus.specs.Reading.{◌>>=◌, known, field_at}
 use Rattle.mm_pdus.specs.GroupReading.{address_at, group_up_at, group_down_at, read_inside, groups_at, counted_at, body_at}
 use Rattle.mm_pdus.proofs.Steps.{bind_ok, guard_ended, ok_is, chosen, join, err_ok}
-use Rattle.mm_pdus.proofs.ValueLaws.{leave_named, leave_of-leave_number, leave_number-lt, detach_named, detach_of-detach_number, detach_number-lt, lifetime_number-lt, lifetime_named, lifetime_of-lifetime_number}
+use Rattle.mm_pdus.proofs.ValueLaws.{leave_named, leave_of-leave_number, leave_number-lt, detach_named, detach_of-detach_number, detach_number-lt}
+use Rattle.mm_pdus.proofs.ValueLaws.{lifetime_number-lt, lifetime_named, lifetime_of-lifetime_number}
 use Rattle.mm_pdus.proofs.FieldLaws.{field_takes, field_again, known_takes}
 
 -- an identity's number has the three that it was made of
@@ -29,12 +32,6 @@ parts_of_number mcc mnc ssi a b c = (omega arith, omega arith, omega arith, omeg
 -- and is made of them
 number_of_parts : (n : ℕ) → n < 2 ^ 48 → (ssi_of n < 2 ^ 24) × (mcc_of n < 2 ^ 10) × (mnc_of n < 2 ^ 14) × (identity_number (mcc_of n) (mnc_of n) (ssi_of n) ≡ n)
 number_of_parts n small = (omega arith, omega arith, omega arith, omega arith)
-
-regroup2 : (a b c d : List Bool) → ((a ++ b) ++ c) ++ d ≡ a ++ (b ++ (c ++ d))
-regroup2 a b c d = simp append_assoc
-
-regroup3 : (a b c d e : List Bool) → (((a ++ b) ++ c) ++ d) ++ e ≡ a ++ (b ++ (c ++ (d ++ e)))
-regroup3 a b c d e = simp append_assoc
 
 full_made : ℕ → ℕ → ℕ × List Bool → Result (GroupAddress × List Bool) MmFault
 full_made gssi mcc mnc = Ok (Full (identity_number mcc mnc.0 gssi), mnc.1)
@@ -67,7 +64,8 @@ address_takes bits a rest h =
                 let one : k.0.0 ≡ 1 = omega (arith, ltb-false 1 k.0.0 supported.0, eqb-false k.0.0 0 full.0) in
                 let start : bits ≡ (num 2 1 ++ num 24 g.0.0) ++ g.0.1 = join bits (num 2 1) k.0.1 (num 24 g.0.0) g.0.1 (t0.0 ∙ ap (λ (n : ℕ). num 2 n ++ k.0.1) one) t1.0 in
                 let middle : bits ≡ ((num 2 1 ++ num 24 g.0.0) ++ num 10 m.0.0) ++ m.0.1 = join bits (num 2 1 ++ num 24 g.0.0) g.0.1 (num 10 m.0.0) m.0.1 start t2.0 in
-                let whole : bits ≡ (((num 2 1 ++ num 24 g.0.0) ++ num 10 m.0.0) ++ num 14 n.0.0) ++ n.0.1 = join bits ((num 2 1 ++ num 24 g.0.0) ++ num 10 m.0.0) m.0.1 (num 14 n.0.0) n.0.1 middle t3.0 in
+                let whole : bits ≡ (((num 2 1 ++ num 24 g.0.0) ++ num 10 m.0.0) ++ num 14 n.0.0) ++ n.0.1 =
+                join bits ((num 2 1 ++ num 24 g.0.0) ++ num 10 m.0.0) m.0.1 (num 14 n.0.0) n.0.1 middle t3.0 in
                 let is : bits ≡ address (Full gtsi) ++ n.0.1 = rw (parts.0, parts.1, parts.2) whole in
                 subst (λ (x : GroupAddress × List Bool). (bits ≡ address x.0 ++ x.1) × IsAddress x.0) (ok_is (Full gtsi, n.0.1) (a, rest) n.2) (is, parts.3)
           ]
@@ -79,8 +77,13 @@ address_again (Short gssi) rest fits =
     ap address_at (append_assoc (num 2 0) (num 24 gssi) rest) ∙ rw (field_again 2 0 (num 24 gssi ++ rest) (omega arith), field_again 24 gssi rest fits) refl
 address_again (Full gtsi) rest fits =
     let parts = number_of_parts gtsi fits in
-    ap address_at (regroup3 (num 2 1) (num 24 (ssi_of gtsi)) (num 10 (mcc_of gtsi)) (num 14 (mnc_of gtsi)) rest)
-    ∙ rw (field_again 2 1 (num 24 (ssi_of gtsi) ++ (num 10 (mcc_of gtsi) ++ (num 14 (mnc_of gtsi) ++ rest))) (omega arith), field_again 24 (ssi_of gtsi) (num 10 (mcc_of gtsi) ++ (num 14 (mnc_of gtsi) ++ rest)) parts.0, field_again 10 (mcc_of gtsi) (num 14 (mnc_of gtsi) ++ rest) parts.1, field_again 14 (mnc_of gtsi) rest parts.2)
+    ap address_at (regroup_five (num 2 1) (num 24 (ssi_of gtsi)) (num 10 (mcc_of gtsi)) (num 14 (mnc_of gtsi)) rest)
+    ∙ rw (
+      field_again 2 1 (num 24 (ssi_of gtsi) ++ (num 10 (mcc_of gtsi) ++ (num 14 (mnc_of gtsi) ++ rest))) (omega arith),
+      field_again 24 (ssi_of gtsi) (num 10 (mcc_of gtsi) ++ (num 14 (mnc_of gtsi) ++ rest)) parts.0,
+      field_again 10 (mcc_of gtsi) (num 14 (mnc_of gtsi) ++ rest) parts.1,
+      field_again 14 (mnc_of gtsi) rest parts.2,
+    )
     (ap (λ (n : ℕ). Ok (Full n, rest)) parts.3)
 
 -- ---- one group
@@ -101,7 +104,9 @@ group_up_takes (true ∷ bits) g rest h =
     let t1 = address_takes r.0.1 a.0.0 a.0.1 a.1 in
     let reason = k.0 in
     let code : num 2 r.0.0 ≡ num 2 (leave_number reason) = ap (num 2) (leave_named r.0.0 reason (known_takes (leave_of r.0.0) reason k.1)) in
-    let is : true ∷ bits ≡ group_up (up.Leave reason a.0.0) ++ a.0.1 = ap (λ (t : List Bool). true ∷ t) (join bits (num 2 (leave_number reason)) r.0.1 (address a.0.0) a.0.1 (t0.0 ∙ ap (λ (t : List Bool). t ++ r.0.1) code) t1.0) in
+    let is : true ∷ bits ≡ group_up (up.Leave reason a.0.0) ++ a.0.1 =
+    ap (λ (t : List Bool). true ∷ t)
+    (join bits (num 2 (leave_number reason)) r.0.1 (address a.0.0) a.0.1 (t0.0 ∙ ap (λ (t : List Bool). t ++ r.0.1) code) t1.0) in
     subst (λ (x : GroupUp × List Bool). (true ∷ bits ≡ group_up x.0 ++ x.1) × IsGroupUp x.0) (ok_is (up.Leave reason a.0.0, a.0.1) (g, rest) a.2) (is, t1.1)
 group_up_takes (false ∷ bits) g rest h =
     let r = bind_ok (field_at 3 bits) (λ class. address_at class.1 >>= λ a. Ok (up.Attach class.0 a.0, a.1)) (g, rest) h in
@@ -135,10 +140,13 @@ group_down_takes (true ∷ bits) g rest h =
     let t1 = address_takes r.0.1 a.0.0 a.0.1 a.1 in
     let reason = k.0 in
     let code : num 2 r.0.0 ≡ num 2 (detach_number reason) = ap (num 2) (detach_named r.0.0 reason (known_takes (detach_of r.0.0) reason k.1)) in
-    let is : true ∷ bits ≡ group_down (down.Detach reason a.0.0) ++ a.0.1 = ap (λ (t : List Bool). true ∷ t) (join bits (num 2 (detach_number reason)) r.0.1 (address a.0.0) a.0.1 (t0.0 ∙ ap (λ (t : List Bool). t ++ r.0.1) code) t1.0) in
+    let is : true ∷ bits ≡ group_down (down.Detach reason a.0.0) ++ a.0.1 =
+    ap (λ (t : List Bool). true ∷ t)
+    (join bits (num 2 (detach_number reason)) r.0.1 (address a.0.0) a.0.1 (t0.0 ∙ ap (λ (t : List Bool). t ++ r.0.1) code) t1.0) in
     subst (λ (x : GroupDown × List Bool). (true ∷ bits ≡ group_down x.0 ++ x.1) × IsGroupDown x.0) (ok_is (down.Detach reason a.0.0, a.0.1) (g, rest) a.2) (is, t1.1)
 group_down_takes (false ∷ bits) g rest h =
-    let n = bind_ok (field_at 2 bits) (λ number. known (lifetime_of number.0) >>= λ lifetime. field_at 3 number.1 >>= λ class. address_at class.1 >>= λ a. Ok (down.Attach lifetime class.0 a.0, a.1)) (g, rest) h in
+    let n = bind_ok (field_at 2 bits) (λ number. known (lifetime_of number.0) >>= λ lifetime. field_at 3 number.1 >>= λ class. address_at class.1 >>=
+    λ a. Ok (down.Attach lifetime class.0 a.0, a.1)) (g, rest) h in
     let l = bind_ok (known (lifetime_of n.0.0)) (λ lifetime. field_at 3 n.0.1 >>= λ class. address_at class.1 >>= λ a. Ok (down.Attach lifetime class.0 a.0, a.1)) (g, rest) n.2 in
     let r = bind_ok (field_at 3 n.0.1) (λ class. address_at class.1 >>= λ a. Ok (down.Attach l.0 class.0 a.0, a.1)) (g, rest) l.2 in
     let a = bind_ok (address_at r.0.1) (λ a. Ok (down.Attach l.0 r.0.0 a.0, a.1)) (g, rest) r.2 in
@@ -146,8 +154,10 @@ group_down_takes (false ∷ bits) g rest h =
     let t1 = field_takes 3 n.0.1 r.0.0 r.0.1 r.1 in
     let t2 = address_takes r.0.1 a.0.0 a.0.1 a.1 in
     let code : num 2 n.0.0 ≡ num 2 (lifetime_number l.0) = ap (num 2) (lifetime_named n.0.0 l.0 (known_takes (lifetime_of n.0.0) l.0 l.1)) in
-    let start : bits ≡ (num 2 (lifetime_number l.0) ++ num 3 r.0.0) ++ r.0.1 = join bits (num 2 (lifetime_number l.0)) n.0.1 (num 3 r.0.0) r.0.1 (t0.0 ∙ ap (λ (t : List Bool). t ++ n.0.1) code) t1.0 in
-    let is : false ∷ bits ≡ group_down (down.Attach l.0 r.0.0 a.0.0) ++ a.0.1 = ap (λ (t : List Bool). false ∷ t) (join bits (num 2 (lifetime_number l.0) ++ num 3 r.0.0) r.0.1 (address a.0.0) a.0.1 start t2.0) in
+    let start : bits ≡ (num 2 (lifetime_number l.0) ++ num 3 r.0.0) ++ r.0.1 =
+    join bits (num 2 (lifetime_number l.0)) n.0.1 (num 3 r.0.0) r.0.1 (t0.0 ∙ ap (λ (t : List Bool). t ++ n.0.1) code) t1.0 in
+    let is : false ∷ bits ≡ group_down (down.Attach l.0 r.0.0 a.0.0) ++ a.0.1 =
+    ap (λ (t : List Bool). false ∷ t) (join bits (num 2 (lifetime_number l.0) ++ num 3 r.0.0) r.0.1 (address a.0.0) a.0.1 start t2.0) in
     subst (λ (x : GroupDown × List Bool). (false ∷ bits ≡ group_down x.0 ++ x.1) × IsGroupDown x.0) (ok_is (down.Attach l.0 r.0.0 a.0.0, a.0.1) (g, rest) a.2) (is, (t1.1, t2.1))
 
 group_down_again : (g : GroupDown) (rest : List Bool) → IsGroupDown g → group_down_at (group_down g ++ rest) ≡ Ok (g, rest)
@@ -158,8 +168,13 @@ group_down_again (down.Detach reason a) rest fits =
     ∙ rw (field_again 2 (detach_number reason) (address a ++ rest) (omega arith), address_again a rest fits, detach_of-detach_number reason) refl
 group_down_again (down.Attach lifetime class a) rest fits =
     let small = lifetime_number-lt lifetime in
-    ap (λ (t : List Bool). group_down_at (false ∷ t)) (regroup2 (num 2 (lifetime_number lifetime)) (num 3 class) (address a) rest)
-    ∙ rw (field_again 2 (lifetime_number lifetime) (num 3 class ++ (address a ++ rest)) (omega arith), lifetime_of-lifetime_number lifetime, field_again 3 class (address a ++ rest) fits.0, address_again a rest fits.1) refl
+    ap (λ (t : List Bool). group_down_at (false ∷ t)) (regroup_four (num 2 (lifetime_number lifetime)) (num 3 class) (address a) rest)
+    ∙ rw (
+      field_again 2 (lifetime_number lifetime) (num 3 class ++ (address a ++ rest)) (omega arith),
+      lifetime_of-lifetime_number lifetime,
+      field_again 3 class (address a ++ rest) fits.0,
+      address_again a rest fits.1,
+    ) refl
 
 pub down_text : IsText GroupDown group_down_at group_down IsGroupDown
 down_text = record { takes = group_down_takes; again = group_down_again }
@@ -181,7 +196,8 @@ module _ {T : Type 0} {group_at : List Bool → Result (T × List Bool) MmFault}
       let first = law.takes bits a.0.0 a.0.1 a.1 in
       let others = groups_take n a.0.1 b.0 b.1 in
       let whole = join bits (text a.0.0) a.0.1 (flat_map text b.0.0) b.0.1 first.0 others.0 in
-      subst (λ (y : List T × List Bool). (bits ≡ flat_map text y.0 ++ y.1) × (length y.0 ≡ suc n) × AllByRecursion IsGroup y.0) (ok_is (a.0.0 ∷ b.0.0, b.0.1) x b.2) (whole, ap suc others.1, (first.1, others.2))
+      subst (λ (y : List T × List Bool). (bits ≡ flat_map text y.0 ++ y.1) × (length y.0 ≡ suc n) × AllByRecursion IsGroup y.0)
+      (ok_is (a.0.0 ∷ b.0.0, b.0.1) x b.2) (whole, ap suc others.1, (first.1, others.2))
 
   groups_again : (items : List T) (rest : List Bool) → AllByRecursion IsGroup items → groups_at group_at (length items) (flat_map text items ++ rest) ≡ Ok (items, rest)
   unfolding groups_at
@@ -189,11 +205,14 @@ module _ {T : Type 0} {group_at : List Bool → Result (T × List Bool) MmFault}
   groups_again (g ∷ items) rest fits =
       ap (groups_at group_at (suc (length items))) (append_assoc (text g) (flat_map text items) rest) ∙ rw (law.again g (flat_map text items ++ rest) fits.0, groups_again items rest fits.1) refl
 
-  pub body_takes : (before : ℕ) (bits : List Bool) (items : List T) → body_at group_at before bits ≡ Ok items → (AllByRecursion IsGroup items × (bits ≡ groups_body text items)) × (before + length items ≤ most_groups)
+  pub body_takes : (before : ℕ) (bits : List Bool) (items : List T) → body_at group_at before bits ≡ Ok items →
+      (AllByRecursion IsGroup items × (bits ≡ groups_body text items)) × (before + length items ≤ most_groups)
   unfolding counted_at
   body_takes before bits items h =
       let last : List T × List Bool → Result (List T) MmFault = λ items. cond (eqb (length items.1) 0) (Ok items.0) (Err fault.BadElement) in
-      let a = bind_ok (field_at 6 bits) (λ count. cond (ltb most_groups (before + count.0)) (Err fault.TooMany) (groups_at group_at count.0 count.1 >>= last)) items (inside_takes (counted_at group_at before bits) items h) in
+      let a = bind_ok (field_at 6 bits)
+      (λ count. cond (ltb most_groups (before + count.0)) (Err fault.TooMany) (groups_at group_at count.0 count.1 >>= last)) items
+      (inside_takes (counted_at group_at before bits) items h) in
       let t0 = field_takes 6 bits a.0.0 a.0.1 a.1 in
       elim (chosen (ltb most_groups (before + a.0.0)) (Err fault.TooMany) (groups_at group_at a.0.0 a.0.1 >>= last) (Ok items) a.2) [
         | inl many ↦ absurd (err_ok {A = List T} fault.TooMany items many.1)
@@ -203,7 +222,9 @@ module _ {T : Type 0} {group_at : List Bool → Result (T × List Bool) MmFault}
             let t1 = groups_take a.0.0 a.0.1 b.0 b.1 in
             let nothing : b.0.1 ≡ [] = nil_from_length b.0.1 (eqb-true _ _ g.0) in
             let whole : bits ≡ groups_body text b.0.0 =
-            t0.0 ∙ ap (λ (n : ℕ). num 6 n ++ a.0.1) (sym t1.1) ∙ ap (λ (t : List Bool). num 6 (length b.0.0) ++ t) (t1.0 ∙ ap (λ (t : List Bool). flat_map text b.0.0 ++ t) nothing ∙ append-nil (flat_map text b.0.0)) in
+            t0.0 ∙ ap (λ (n : ℕ). num 6 n ++ a.0.1) (sym t1.1) ∙
+            ap (λ (t : List Bool). num 6 (length b.0.0) ++ t) (t1.0 ∙ ap (λ (t : List Bool). flat_map text b.0.0 ++ t) nothing ∙
+            append-nil (flat_map text b.0.0)) in
             let le = ltb-false most_groups (before + a.0.0) few.0 in
             subst (λ (v : List T). (AllByRecursion IsGroup v × (bits ≡ groups_body text v)) × (before + length v ≤ most_groups)) g.1 ((t1.2, whole), omega (arith, t1.1))
       ]
@@ -212,5 +233,6 @@ module _ {T : Type 0} {group_at : List Bool → Result (T × List Bool) MmFault}
   unfolding counted_at
   body_again before items fits le =
       let few : ltb most_groups (before + length items) ≡ false = le-ltb _ _ le in
-      let read : groups_at group_at (length items) (flat_map text items) ≡ Ok (items, []) = ap (groups_at group_at (length items)) (sym (append-nil (flat_map text items))) ∙ groups_again items [] fits in
+      let read : groups_at group_at (length items) (flat_map text items) ≡ Ok (items, []) =
+      ap (groups_at group_at (length items)) (sym (append-nil (flat_map text items))) ∙ groups_again items [] fits in
       rw (field_again 6 (length items) (flat_map text items) (omega arith), few, read) refl

@@ -28,7 +28,8 @@ module _ {T : Type 0} (group_at : List Bool → Result (T × List Bool) MmFault)
   unfolding groups_at
   goes_on prefix count i bits n after lt h =
       let k : count - i ≡ suc (count - (i + 1)) = omega arith in
-      let one : with_prefix prefix (groups_at group_at (count - i) bits) ≡ with_prefix (prefix ++ n ∷ []) (groups_at group_at (count - (i + 1)) after) = rw (k, h) (regroup prefix n (groups_at group_at (count - (i + 1)) after)) in
+      let one : with_prefix prefix (groups_at group_at (count - i) bits) ≡ with_prefix (prefix ++ n ∷ [])
+      (groups_at group_at (count - (i + 1)) after) = rw (k, h) (regroup prefix n (groups_at group_at (count - (i + 1)) after)) in
       sym one
 
   pub ends : (f : MmFault) (prefix : List T) (count i : ℕ) (bits : List Bool) → i < count → group_at bits ≡ Err f → with_prefix prefix (groups_at group_at (count - i) bits) ≡ Err f
@@ -46,7 +47,16 @@ length-address_short gssi = omega (arith, length-append (num 2 0) (num 24 gssi),
 
 pub length-address_full : (gtsi : ℕ) → length (num 2 1 ++ num 24 (ssi_of gtsi) ++ num 10 (mcc_of gtsi) ++ num 14 (mnc_of gtsi)) ≡ 50
 length-address_full gtsi =
-    omega (arith, length-append (num 2 1 ++ num 24 (ssi_of gtsi) ++ num 10 (mcc_of gtsi)) (num 14 (mnc_of gtsi)), length-append (num 2 1 ++ num 24 (ssi_of gtsi)) (num 10 (mcc_of gtsi)), length-append (num 2 1) (num 24 (ssi_of gtsi)), length-num 2 1, length-num 24 (ssi_of gtsi), length-num 10 (mcc_of gtsi), length-num 14 (mnc_of gtsi))
+    omega (
+      arith,
+      length-append (num 2 1 ++ num 24 (ssi_of gtsi) ++ num 10 (mcc_of gtsi)) (num 14 (mnc_of gtsi)),
+      length-append (num 2 1 ++ num 24 (ssi_of gtsi)) (num 10 (mcc_of gtsi)),
+      length-append (num 2 1) (num 24 (ssi_of gtsi)),
+      length-num 2 1,
+      length-num 24 (ssi_of gtsi),
+      length-num 10 (mcc_of gtsi),
+      length-num 14 (mnc_of gtsi),
+    )
 
 -- a bit, a number and what follows
 pub length_one : (w v : ℕ) (b : Bool) (rest : List Bool) → length (b ∷ num w v ++ rest) ≡ (w + 1) + length rest
@@ -84,7 +94,8 @@ groups_body_short text items each few = let h = groups_short text items each in 
 regroup6 : (w t a b c d : List Bool) → ((((w ++ t) ++ a) ++ b) ++ c) ++ d ≡ w ++ (t ++ ((a ++ b) ++ (c ++ d)))
 regroup6 w t a b c d = simp append_assoc
 
-pub element_written : {T : Type 0} (text : T → List Bool) (identifier len : ℕ) (items : List T) (w0 w1 w2 w3 w4 w5 : List Bool) → w1 ≡ w0 ++ true ∷ [] → w2 ≡ w1 ++ num 4 identifier → w3 ≡ w2 ++ num 11 len → w4 ≡ w3 ++ num 6 (length items)
+pub element_written : {T : Type 0} (text : T → List Bool) (identifier len : ℕ) (items : List T) (w0 w1 w2 w3 w4 w5 : List Bool) →
+    w1 ≡ w0 ++ true ∷ [] → w2 ≡ w1 ++ num 4 identifier → w3 ≡ w2 ++ num 11 len → w4 ≡ w3 ++ num 6 (length items)
     → len ≡ length (groups_body text items) → w5 ≡ w4 ++ flat_map text items → w5 ≡ w0 ++ element (made_element identifier (groups_body text items))
 element_written text identifier len items w0 w1 w2 w3 w4 w5 e1 e2 e3 e4 is_len e5 =
     let one : w5 ≡ ((((w0 ++ true ∷ []) ++ num 4 identifier) ++ num 11 len) ++ num 6 (length items)) ++ flat_map text items = cc in

@@ -2,6 +2,7 @@ pub mod Steps
 pub mod ElementSteps
 pub mod ItemLaws
 pub mod GroupSteps
+pub mod Written
 pub mod ValueLaws
 pub mod FieldLaws
 pub mod ExtensionLaws

@@ -27,16 +27,19 @@ module _ {T : Type 0} (group_at : List Bool → Result (T × List Bool) MmFault)
   groups_want zero bits x some e = absurd (omega arith)
   groups_want (suc n) bits x some e = rw e refl
 
-  pub read_wants : (begin : List Bool) (count : ℕ) (bits : List Bool) (f : MmFault) → zero < count → IsFirst begin count bits → group_at bits ≡ Err f → f ≡ NoMemory → groups_at (unkept group_at) count begin ≡ Err f
+  pub read_wants : (begin : List Bool) (count : ℕ) (bits : List Bool) (f : MmFault) → zero < count → IsFirst begin count bits →
+      group_at bits ≡ Err f → f ≡ NoMemory → groups_at (unkept group_at) count begin ≡ Err f
   read_wants begin count bits f some (inl same) e is = groups_fail count begin f some (ap group_at (sym same) ∙ e)
   read_wants begin count bits f some (inr first) e is = first ∙ ap (λ (d : MmFault). Err d) (sym is)
 
-  pub add_wants : (begin : List Bool) (count : ℕ) (bits : List Bool) (x : T × List Bool) → zero < count → IsFirst begin count bits → group_at bits ≡ Ok x → groups_at (unkept group_at) count begin ≡ Err NoMemory
+  pub add_wants : (begin : List Bool) (count : ℕ) (bits : List Bool) (x : T × List Bool) → zero < count → IsFirst begin count bits →
+      group_at bits ≡ Ok x → groups_at (unkept group_at) count begin ≡ Err NoMemory
   add_wants begin count bits x some (inl same) e = groups_want count begin x some (ap group_at (sym same) ∙ e)
   add_wants begin count bits x some (inr first) e = first
 
   -- what is read with memory is read so without it, or memory runs out
-  groups_same : (count : ℕ) (bits : List Bool) (x : List T × List Bool) → groups_at group_at count bits ≡ Ok x → (groups_at (unkept group_at) count bits ≡ Ok x) ⊎ (groups_at (unkept group_at) count bits ≡ Err NoMemory)
+  groups_same : (count : ℕ) (bits : List Bool) (x : List T × List Bool) → groups_at group_at count bits ≡ Ok x →
+      (groups_at (unkept group_at) count bits ≡ Ok x) ⊎ (groups_at (unkept group_at) count bits ≡ Err NoMemory)
   unfolding groups_at
   groups_same zero bits x e = inl e
   groups_same (suc n) bits x e =
@@ -53,7 +56,8 @@ module _ {T : Type 0} (group_at : List Bool → Result (T × List Bool) MmFault)
       let a = bind_ok r ended x e in
       elim (same a.0 a.1) [ inl is ↦ inl (rw is a.2) | inr wants ↦ inr (rw wants refl) ]
 
-  counted_same : (before : ℕ) (bits : List Bool) (x : List T) → counted_at group_at before bits ≡ Ok x → (counted_at (unkept group_at) before bits ≡ Ok x) ⊎ (counted_at (unkept group_at) before bits ≡ Err NoMemory)
+  counted_same : (before : ℕ) (bits : List Bool) (x : List T) → counted_at group_at before bits ≡ Ok x →
+      (counted_at (unkept group_at) before bits ≡ Ok x) ⊎ (counted_at (unkept group_at) before bits ≡ Err NoMemory)
   unfolding counted_at ended
   counted_same before bits x e =
       let a = bind_ok (field_at 6 bits) (λ count. cond (ltb most_groups (before + count.0)) (Err TooMany) (groups_at group_at count.0 count.1 >>= ended)) x e in
@@ -63,7 +67,8 @@ module _ {T : Type 0} (group_at : List Bool → Result (T × List Bool) MmFault)
   inside_ok (Ok y) x e = e
   inside_ok (Err f) x e = absurd cc
 
-  body_same : (before : ℕ) (bits : List Bool) (x : List T) → body_at group_at before bits ≡ Ok x → (body_at (unkept group_at) before bits ≡ Ok x) ⊎ (body_at (unkept group_at) before bits ≡ Err NoMemory)
+  body_same : (before : ℕ) (bits : List Bool) (x : List T) → body_at group_at before bits ≡ Ok x → (body_at (unkept group_at) before bits ≡ Ok x) ⊎
+      (body_at (unkept group_at) before bits ≡ Err NoMemory)
   body_same before bits x e =
       elim (counted_same before bits x (inside_ok (counted_at group_at before bits) x e)) [ inl is ↦ inl (ap read_inside is) | inr wants ↦ inr (ap read_inside wants) ]
 
@@ -76,7 +81,8 @@ join_same : (items : List GroupUp) (e : Element) (x : List GroupUp) → join_gro
 join_same items e x h = by (eqb e.identifier identity_uplink) h
   where
     by : (b : Bool) → cond b (appended_to items (body_at group_up_at (length items) e.body)) (Ok items) ≡ Ok x
-        → (cond b (appended_to items (body_at (unkept group_up_at) (length items) e.body)) (Ok items) ≡ Ok x) ⊎ (cond b (appended_to items (body_at (unkept group_up_at) (length items) e.body)) (Ok items) ≡ Err NoMemory)
+        → (cond b (appended_to items (body_at (unkept group_up_at) (length items) e.body)) (Ok items) ≡ Ok x) ⊎
+        (cond b (appended_to items (body_at (unkept group_up_at) (length items) e.body)) (Ok items) ≡ Err NoMemory)
     by false h = inl h
     by true h =
         let a = bind_ok (body_at group_up_at (length items) e.body) (λ more. Ok (items ++ more)) x h in
@@ -89,16 +95,19 @@ all items bits = elements_at without (length bits) items bits
 abbrev pub AreFirst : List GroupUp → List Bool → List GroupUp → List Bool → Type 0
 AreFirst start begin items bits = (all items bits ≡ all start begin) ⊎ (all start begin ≡ Err NoMemory)
 
-pub element_wants : (start : List GroupUp) (begin : List Bool) (items : List GroupUp) (bits : List Bool) (f : MmFault) → AreFirst start begin items bits → element_at bits ≡ Err f → f ≡ NoMemory → all start begin ≡ Err f
+pub element_wants : (start : List GroupUp) (begin : List Bool) (items : List GroupUp) (bits : List Bool) (f : MmFault) →
+    AreFirst start begin items bits → element_at bits ≡ Err f → f ≡ NoMemory → all start begin ≡ Err f
 element_wants start begin items bits f (inl same) e is = sym same ∙ elements_fail without items bits f e
 element_wants start begin items bits f (inr first) e is = first ∙ ap (λ (d : MmFault). Err d) (sym is)
 
-pub join_wants : (start : List GroupUp) (begin : List Bool) (items : List GroupUp) (bits rest : List Bool) (e : Element) (f : MmFault) → AreFirst start begin items bits → element_at bits ≡ Ok (Some e, rest)
+pub join_wants : (start : List GroupUp) (begin : List Bool) (items : List GroupUp) (bits rest : List Bool) (e : Element) (f : MmFault) →
+    AreFirst start begin items bits → element_at bits ≡ Ok (Some e, rest)
     → (f ≡ NoMemory → without items e ≡ Err f) → f ≡ NoMemory → all start begin ≡ Err f
 join_wants start begin items bits rest e f (inl same) read wants is = sym same ∙ elements_refuse without items bits rest e f read (wants is)
 join_wants start begin items bits rest e f (inr first) read wants is = first ∙ ap (λ (d : MmFault). Err d) (sym is)
 
-pub first_after_join : (start : List GroupUp) (begin : List Bool) (items longer : List GroupUp) (bits rest : List Bool) (e : Element) → AreFirst start begin items bits → element_at bits ≡ Ok (Some e, rest)
+pub first_after_join : (start : List GroupUp) (begin : List Bool) (items longer : List GroupUp) (bits rest : List Bool) (e : Element) →
+    AreFirst start begin items bits → element_at bits ≡ Ok (Some e, rest)
     → join_groups group_up_at items e ≡ Ok longer → AreFirst start begin longer rest
 first_after_join start begin items longer bits rest e (inr first) read is = inr first
 first_after_join start begin items longer bits rest e (inl same) read is =

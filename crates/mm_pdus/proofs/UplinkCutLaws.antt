@@ -27,7 +27,9 @@ module _ (more : List Bool) where
     detach_cut : (bits : List Bool) (x : MmUp A × List Bool) → detach_at (bits ++ more) ≡ Ok x → Cut (value_on more) (detach_at bits) x
     unfolding detach_at
     detach_cut bits x e =
-        cut_bind (on more) (value_on more) (extension_at detach_widths bits) (extension_at detach_widths (bits ++ more)) (λ rest. Ok (Detach, rest)) (λ rest. Ok (Detach, rest)) x (extension_cut more detach_widths bits) (λ y is h. inr ((Detach, y), refl, sym (ok_is (Detach, y ++ more) x h))) e
+        cut_bind (on more) (value_on more) (extension_at detach_widths bits) (extension_at detach_widths (bits ++ more)) (λ rest. Ok (Detach, rest))
+        (λ rest. Ok (Detach, rest)) x (extension_cut more detach_widths bits)
+        (λ y is h. inr ((Detach, y), refl, sym (ok_is (Detach, y ++ more) x h))) e
 
     demand_cut : (bits : List Bool) (x : MmUp A × List Bool) → demand_at (bits ++ more) ≡ Ok x → Cut (value_on more) (demand_at bits) x
     unfolding demand_at
@@ -40,7 +42,8 @@ module _ (more : List Bool) where
         same_bind (value_on more) (known (update_of n.0)) (named n.1) (named (n.1 ++ more)) x (λ u is h.
         cut_bind (value_on more) (value_on more) (bit_at n.1) (bit_at (n.1 ++ more)) (second u) (second u) x (bit_cut more n.1) (λ a is h.
         cut_bind (on more) (value_on more) (optional_at 10 a.1) (optional_at 10 (a.1 ++ more)) (third u) (third u) x (optional_cut more 10 a.1) (λ y is h.
-        cut_bind (on more) (value_on more) (extension_at demand_widths y) (extension_at demand_widths (y ++ more)) (λ rest. Ok (Demand u, rest)) (λ rest. Ok (Demand u, rest)) x (extension_cut more demand_widths y) (λ z is h.
+        cut_bind (on more) (value_on more) (extension_at demand_widths y) (extension_at demand_widths (y ++ more)) (λ rest. Ok (Demand u, rest))
+        (λ rest. Ok (Demand u, rest)) x (extension_cut more demand_widths y) (λ z is h.
         inr ((Demand u, z), refl, sym (ok_is (Demand u, z ++ more) x h))) h) h) h) h) e
 
     groups_cut : (bits : List Bool) (x : MmUp A × List Bool) → groups_up_at group_up_at (bits ++ more) ≡ Ok x → Cut (value_on more) (groups_up_at group_up_at bits) x
@@ -65,9 +68,13 @@ module _ (more : List Bool) where
     up_cut : (bits : List Bool) (x : MmUp A × List Bool) → up_at group_up_at (bits ++ more) ≡ Ok x → Cut (value_on more) (up_at group_up_at bits) x
     unfolding up_at
     up_cut bits x e =
-        let kind_of : ℕ × List Bool → Result (MmUp A × List Bool) MmFault = λ kind. cond (eqb kind.0 1) (detach_at kind.1) (cond (eqb kind.0 2) (demand_at kind.1) (cond (eqb kind.0 7) (groups_up_at group_up_at kind.1) (Err UnknownType))) in
+        let kind_of : ℕ × List Bool → Result (MmUp A × List Bool) MmFault = λ kind.
+        cond (eqb kind.0 1) (detach_at kind.1)
+        (cond (eqb kind.0 2) (demand_at kind.1) (cond (eqb kind.0 7) (groups_up_at group_up_at kind.1) (Err UnknownType))) in
         cut_bind (value_on more) (value_on more) (field_at 4 bits) (field_at 4 (bits ++ more)) kind_of kind_of x (field_cut more 4 bits) (λ y is h. up_by (eqb y.0 1) (eqb y.0 2) (eqb y.0 7) y.1 x h) e
 
 pub missing : {A : Type 0} (p : MmUp A) (bits rest : List Bool) (b : Bool) → SpellsUp p (bits ++ b ∷ rest) → reading_up {A = A} bits ≡ Err Short
 unfolding reading_up
-missing p bits rest b spells = whole_missing (up_at group_up_at bits) p b rest (up_cut (b ∷ rest) bits (p, []) (ap (up_at group_up_at) (sym (append-nil (bits ++ b ∷ rest))) ∙ up_again p (bits ++ b ∷ rest) [] spells))
+missing p bits rest b spells =
+    whole_missing (up_at group_up_at bits) p b rest
+    (up_cut (b ∷ rest) bits (p, []) (ap (up_at group_up_at) (sym (append-nil (bits ++ b ∷ rest))) ∙ up_again p (bits ++ b ∷ rest) [] spells))

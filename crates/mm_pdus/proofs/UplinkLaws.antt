@@ -1,9 +1,11 @@
 -- The two laws for PDUs from a radio: what is read is spelt so, and what is spelt so is read.
-use Rattle.std.proofs.Common.{◌≡◌, ℕ, ◌<◌, ◌≤◌, ◌+◌, Bool, true, false, cond, List, [], ◌∷◌, ◌++◌, length, Option, Some, None, Result, Ok, Err, refl, sym, ap, subst, ◌∙◌, arith, eqb, append_assoc, length-append, ◌⊎◌, inl, inr}
+use Rattle.std.proofs.Common.{◌≡◌, ℕ, ◌<◌, ◌≤◌, ◌+◌, Bool, true, false, cond, List, [], ◌∷◌, ◌++◌, length, Option, Some, None, Result, Ok, Err, refl}
+use Rattle.std.proofs.Common.{sym, ap, subst, ◌∙◌, arith, eqb, append_assoc, length-append, ◌⊎◌, inl, inr}
 use Rattle.std.specs.Prelude.{IfOk, MatchBool}
 use Rattle.std.specs.List.{flat_map, AllByRecursion}
 use Rattle.std.proofs.lemmas.Bool.{eqb-true, ne_eqb, true≢false, false≢true}
 use Rattle.std.proofs.lemmas.List.{append-nil}
+use Rattle.base.proofs.Lists.{regroup_five}
 use Rattle.identity.specs.Number.{num}
 use Rattle.mm_pdus.specs.declared.fault.MmFault.{MmFault}
 use Rattle.mm_pdus.specs.declared.fault.MmFault.TheVariants.{Trailing, UnknownType}
@@ -25,9 +27,6 @@ use Rattle.mm_pdus.proofs.ExtensionLaws.{all_into, elements_take, elements_again
 use Rattle.mm_pdus.proofs.GroupLaws.{up_text, body_takes, body_again}
 use Rattle.mm_pdus.proofs.GroupSteps.{groups_body_short, group_up_short}
 
-regroup : (a b c d e : List Bool) → (((a ++ b) ++ c) ++ d) ++ e ≡ a ++ (b ++ (c ++ (d ++ e)))
-regroup a b c d e = simp append_assoc
-
 -- ---- the groups of all elements
 
 pick : (b : Bool) (P Q : Type 0) → ((b ≡ true) × P) ⊎ ((b ≡ false) × Q) → MatchBool b P Q
@@ -48,12 +47,34 @@ groups_into s (e ∷ es) t room h =
           let prefix = body_takes up_text (length s) e.body b.0 b.1 in
           let is = ok_is (s ++ b.0) a.0 b.2 in
           let later = groups_into a.0 es t (omega (arith, ap length is, length-append s b.0, prefix.1)) a.2 in
-          let whole : t ≡ s ++ (b.0 ++ later.0) = later.1 ∙ ap (λ (u : List GroupUp). u ++ later.0) (sym is) ∙ append_assoc s b.0 later.0 in
-          (b.0 ++ later.0, whole, (b.0, later.0, refl, pick (eqb e.identifier identity_uplink) (AllByRecursion IsGroupUp b.0 × (e.body ≡ groups_body group_up b.0)) (b.0 ≡ []) (inl (known.0, prefix.0)), later.2), later.3)
+          let whole : t ≡ s ++ (b.0 ++ later.0) = later.1 ∙ ap (λ (u : List GroupUp). u ++ later.0) (sym is) ∙ append_assoc s b.0 later.0 in (
+            b.0 ++ later.0,
+            whole,
+            (
+              b.0,
+              later.0,
+              refl,
+              pick (eqb e.identifier identity_uplink) (AllByRecursion IsGroupUp b.0 × (e.body ≡ groups_body group_up b.0))
+                  (b.0 ≡ []) (inl (known.0, prefix.0)),
+              later.2,
+            ),
+            later.3,
+          )
       | inr other ↦
           let is = ok_is s a.0 other.1 in
-          let later = groups_into a.0 es t (omega (arith, ap length is)) a.2 in
-          (later.0, later.1 ∙ ap (λ (u : List GroupUp). u ++ later.0) (sym is), ([], later.0, refl, pick (eqb e.identifier identity_uplink) (Unit {0} × (e.body ≡ groups_body group_up [])) ([] ≡ []) (inr (other.0, refl)), later.2), later.3)
+          let later = groups_into a.0 es t (omega (arith, ap length is)) a.2 in (
+            later.0,
+            later.1 ∙ ap (λ (u : List GroupUp). u ++ later.0) (sym is),
+            (
+              [],
+              later.0,
+              refl,
+              pick (eqb e.identifier identity_uplink) (Unit {0} × (e.body ≡ groups_body group_up [])) ([] ≡ [])
+                  (inr (other.0, refl)),
+              later.2,
+            ),
+            later.3,
+          )
     ]
 
 groups_again_into : (s : List GroupUp) (es : List Element) (more : List GroupUp) → GroupsOf es more → length s + length more ≤ most_groups → all_into (join_groups group_up_at) s es ≡ Ok (s ++ more)
@@ -66,7 +87,8 @@ groups_again_into s (e ∷ es) more (prefix, back, is, body, later) room =
     ∙ groups_again_into (s ++ prefix) es back later (omega (arith, length-append s prefix))
     ∙ ap (λ (l : List GroupUp). Ok l) (append_assoc s prefix back ∙ ap (λ (m : List GroupUp). s ++ m) (sym is))
   where
-    one : (b : Bool) → eqb e.identifier identity_uplink ≡ b → MatchBool b (AllByRecursion IsGroupUp prefix × (e.body ≡ groups_body group_up prefix)) (prefix ≡ []) → length s + length prefix ≤ most_groups → join_groups group_up_at s e ≡ Ok (s ++ prefix)
+    one : (b : Bool) → eqb e.identifier identity_uplink ≡ b → MatchBool b (AllByRecursion IsGroupUp prefix × (e.body ≡ groups_body group_up prefix))
+        (prefix ≡ []) → length s + length prefix ≤ most_groups → join_groups group_up_at s e ≡ Ok (s ++ prefix)
     one true test groups room = rw (test, groups.1, body_again up_text (length s) prefix groups.0 room) refl
     one false test none room = rw (test, none) (ap (λ (l : List GroupUp). Ok l) (sym (append-nil s)))
 
@@ -76,7 +98,8 @@ unfolding all_groups_at
 all_groups_take [] items rest h = absurd cc
 all_groups_take (false ∷ bits) items rest h =
     let is = ok_is ([], bits) (items, rest) h in
-    subst (λ (q : List GroupUp × List Bool). (x : Option Extension) × (false ∷ bits ≡ extension x ++ q.1) × IsExtension [] x × GroupsOf (elements_of x) q.0 × (length q.0 ≤ most_groups)) is (None, refl, tt, refl, omega arith)
+    subst (λ (q : List GroupUp × List Bool). (x : Option Extension) × (false ∷ bits ≡ extension x ++ q.1) × IsExtension [] x ×
+    GroupsOf (elements_of x) q.0 × (length q.0 ≤ most_groups)) is (None, refl, tt, refl, omega arith)
 all_groups_take (true ∷ bits) items rest h =
     let es = elements_take (join_groups group_up_at) (length bits) [] bits (items, rest) h in
     let found = groups_into [] es.0 items (omega arith) es.3 in
@@ -84,7 +107,8 @@ all_groups_take (true ∷ bits) items rest h =
     let body : bits ≡ (flat_map element es.0 ++ false ∷ []) ++ rest = es.1 ∙ sym (append_assoc (flat_map element es.0) (false ∷ []) rest) in
     (Some (record { parts = []; elements = es.0 }), ap (λ (t : List Bool). true ∷ t) body, (tt, es.2), groups, found.3)
 
-all_groups_again : (x : Option Extension) (items : List GroupUp) (rest : List Bool) → IsExtension [] x → GroupsOf (elements_of x) items → length items ≤ most_groups → all_groups_at group_up_at (extension x ++ rest) ≡ Ok (items, rest)
+all_groups_again : (x : Option Extension) (items : List GroupUp) (rest : List Bool) → IsExtension [] x → GroupsOf (elements_of x) items →
+    length items ≤ most_groups → all_groups_at group_up_at (extension x ++ rest) ≡ Ok (items, rest)
 unfolding all_groups_at
 all_groups_again None items rest fits none room = ap (λ (l : List GroupUp). Ok (l, rest)) (sym none)
 all_groups_again (Some x) items rest fits groups room = by_parts x.parts refl fits
@@ -92,7 +116,8 @@ all_groups_again (Some x) items rest fits groups room = by_parts x.parts refl fi
     by_parts : (parts : List (Option (List Bool))) → x.parts ≡ parts → IsExtension [] (Some x) → all_groups_at group_up_at (extension (Some x) ++ rest) ≡ Ok (items, rest)
     by_parts [] none fits =
         let tail = flat_map element x.elements ++ false ∷ rest in
-        let read = elements_again (join_groups group_up_at) (length tail) [] x.elements rest items (elements_long x.elements rest) fits.1 (groups_again_into [] x.elements items groups (omega arith)) in
+        let read = elements_again (join_groups group_up_at) (length tail) [] x.elements rest items (elements_long x.elements rest) fits.1
+        (groups_again_into [] x.elements items groups (omega arith)) in
         let text : extension (Some x) ++ rest ≡ true ∷ tail = rw none (ap (λ (t : List Bool). true ∷ t) (append_assoc (flat_map element x.elements) (false ∷ []) rest)) in
         ap (all_groups_at group_up_at) text ∙ read
     by_parts (part ∷ parts) some fits = absurd (rw some at fits.0)
@@ -127,10 +152,14 @@ module _ {A : Type 0} where
       let t4 = extension_takes demand_widths d.0 e.0 e.1 in
       let code : num 3 a.0.0 ≡ num 3 (update_number update) = ap (num 3) (update_named a.0.0 update (known_takes (update_of a.0.0) update k.1)) in
       let text = num 4 2 ++ num 3 (update_number update) ++ b.0.0 ∷ optional t3.0 ++ extension t4.0 in
-      let start : num 4 2 ++ bits ≡ (num 4 2 ++ num 3 (update_number update)) ++ a.0.1 = join (num 4 2 ++ bits) (num 4 2) bits (num 3 (update_number update)) a.0.1 refl (t1.0 ∙ ap (λ (t : List Bool). t ++ a.0.1) code) in
+      let start : num 4 2 ++ bits ≡ (num 4 2 ++ num 3 (update_number update)) ++ a.0.1 =
+      join (num 4 2 ++ bits) (num 4 2) bits (num 3 (update_number update)) a.0.1 refl (t1.0 ∙ ap (λ (t : List Bool). t ++ a.0.1) code) in
       let middle : a.0.1 ≡ (b.0.0 ∷ optional t3.0) ++ d.0 = t2 ∙ ap (λ (t : List Bool). b.0.0 ∷ t) t3.1 in
-      let is : num 4 2 ++ bits ≡ text ++ e.0 = join (num 4 2 ++ bits) (num 4 2 ++ num 3 (update_number update) ++ b.0.0 ∷ optional t3.0) d.0 (extension t4.0) e.0 (join (num 4 2 ++ bits) (num 4 2 ++ num 3 (update_number update)) a.0.1 (b.0.0 ∷ optional t3.0) d.0 start middle) t4.1 in
-      subst (λ (q : MmUp A × List Bool). (text : List Bool) × (num 4 2 ++ bits ≡ text ++ q.1) × SpellsUp q.0 text) (ok_is (Demand update, e.0) (p, rest) e.2) (text, is, (b.0.0, t3.0, t4.0, t3.2, t4.2, refl))
+      let is : num 4 2 ++ bits ≡ text ++ e.0 = join (num 4 2 ++ bits) (num 4 2 ++ num 3 (update_number update) ++ b.0.0 ∷ optional t3.0) d.0
+      (extension t4.0) e.0 (join (num 4 2 ++ bits) (num 4 2 ++ num 3 (update_number update)) a.0.1 (b.0.0 ∷ optional t3.0) d.0 start middle) t4.1
+      in
+      subst (λ (q : MmUp A × List Bool). (text : List Bool) × (num 4 2 ++ bits ≡ text ++ q.1) × SpellsUp q.0 text)
+      (ok_is (Demand update, e.0) (p, rest) e.2) (text, is, (b.0.0, t3.0, t4.0, t3.2, t4.2, refl))
 
   groups_takes : (bits : List Bool) (p : MmUp A) (rest : List Bool) → groups_up_at group_up_at bits ≡ Ok (p, rest) → (text : List Bool) × (num 4 7 ++ bits ≡ text ++ rest) × SpellsUp p text
   unfolding groups_up_at
@@ -146,12 +175,15 @@ module _ {A : Type 0} where
       let body : bits ≡ (r.0.0 ∷ mode_bit mode ∷ extension t3.0) ++ g.0.1 = join bits (r.0.0 ∷ mode_bit mode ∷ []) m.0.1 (extension t3.0) g.0.1 fields t3.1 in
       let text = num 4 7 ++ r.0.0 ∷ mode_bit mode ∷ extension t3.0 in
       let is : num 4 7 ++ bits ≡ text ++ g.0.1 = join (num 4 7 ++ bits) (num 4 7) bits (r.0.0 ∷ mode_bit mode ∷ extension t3.0) g.0.1 refl body in
-      subst (λ (q : MmUp A × List Bool). (text : List Bool) × (num 4 7 ++ bits ≡ text ++ q.1) × SpellsUp q.0 text) (ok_is (Groups mode g.0.0, g.0.1) (p, rest) g.2) (text, is, (r.0.0, t3.0, t3.2, t3.3, t3.4, refl))
+      subst (λ (q : MmUp A × List Bool). (text : List Bool) × (num 4 7 ++ bits ≡ text ++ q.1) × SpellsUp q.0 text)
+      (ok_is (Groups mode g.0.0, g.0.1) (p, rest) g.2) (text, is, (r.0.0, t3.0, t3.2, t3.3, t3.4, refl))
 
   up_takes : (bits : List Bool) (p : MmUp A) (rest : List Bool) → up_at group_up_at bits ≡ Ok (p, rest) → (text : List Bool) × (bits ≡ text ++ rest) × SpellsUp p text
   unfolding up_at
   up_takes bits p rest h =
-      let a = bind_ok (field_at 4 bits) (λ kind. cond (eqb kind.0 1) (detach_at kind.1) (cond (eqb kind.0 2) (demand_at kind.1) (cond (eqb kind.0 7) (groups_up_at group_up_at kind.1) (Err UnknownType)))) (p, rest) h in
+      let a = bind_ok (field_at 4 bits)
+      (λ kind. cond (eqb kind.0 1) (detach_at kind.1)
+      (cond (eqb kind.0 2) (demand_at kind.1) (cond (eqb kind.0 7) (groups_up_at group_up_at kind.1) (Err UnknownType)))) (p, rest) h in
       let t = field_takes 4 bits a.0.0 a.0.1 a.1 in
       let is_kind : (k : ℕ) → eqb a.0.0 k ≡ true → num 4 k ++ a.0.1 ≡ bits = λ k e. ap (λ (n : ℕ). num 4 n ++ a.0.1) (sym (eqb-true a.0.0 k e)) ∙ sym t.0 in
       elim (chosen (eqb a.0.0 1) (detach_at a.0.1) (cond (eqb a.0.0 2) (demand_at a.0.1) (cond (eqb a.0.0 7) (groups_up_at group_up_at a.0.1) (Err UnknownType))) (Ok (p, rest)) a.2) [
@@ -175,8 +207,14 @@ module _ {A : Type 0} where
       let back = update_of-update_number update in
       let small = update_number-lt update in
       ap (λ (t : List Bool). up_at group_up_at (t ++ rest)) is
-      ∙ ap (up_at group_up_at) (regroup (num 4 2) (num 3 (update_number update)) (append ∷ optional ciphering) (extension x) rest)
-      ∙ rw (field_again 4 2 (num 3 (update_number update) ++ (append ∷ (optional ciphering ++ (extension x ++ rest)))) (omega arith), field_again 3 (update_number update) (append ∷ (optional ciphering ++ (extension x ++ rest))) (omega arith), optional_again 10 ciphering (extension x ++ rest) key, extension_again demand_widths x rest fits, back) refl
+      ∙ ap (up_at group_up_at) (regroup_five (num 4 2) (num 3 (update_number update)) (append ∷ optional ciphering) (extension x) rest)
+      ∙ rw (
+        field_again 4 2 (num 3 (update_number update) ++ (append ∷ (optional ciphering ++ (extension x ++ rest)))) (omega arith),
+        field_again 3 (update_number update) (append ∷ (optional ciphering ++ (extension x ++ rest))) (omega arith),
+        optional_again 10 ciphering (extension x ++ rest) key,
+        extension_again demand_widths x rest fits,
+        back,
+      ) refl
   up_again (Groups mode items) bits rest (report, x, fits, groups, room, is) =
       ap (λ (t : List Bool). up_at group_up_at (t ++ rest)) is
       ∙ ap (up_at group_up_at) (append_assoc (num 4 7) (report ∷ mode_bit mode ∷ extension x) rest)
@@ -208,7 +246,8 @@ module _ {A : Type 0} where
   pub canon_spells : (p : MmUp A) → IsUp p → SpellsUp p (canon_up p)
   canon_spells Detach fits = (None, tt, refl)
   canon_spells (Demand update) fits =
-      let is : demand_text update ≡ num 4 2 ++ num 3 (update_number update) ++ false ∷ false ∷ [] ++ false ∷ [] = sym (append_assoc (num 4 2 ++ num 3 (update_number update)) (false ∷ false ∷ []) (false ∷ [])) in
+      let is : demand_text update ≡ num 4 2 ++ num 3 (update_number update) ++ false ∷ false ∷ [] ++ false ∷ [] =
+      sym (append_assoc (num 4 2 ++ num 3 (update_number update)) (false ∷ false ∷ []) (false ∷ [])) in
       (false, None, None, tt, tt, is)
   canon_spells (Groups mode []) fits = (false, None, tt, refl, fits.0, refl)
   canon_spells (Groups mode (g ∷ items)) fits =

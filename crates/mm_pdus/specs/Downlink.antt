@@ -1,5 +1,5 @@
 -- The bits of PDUs to a radio: D-LOCATION UPDATE ACCEPT, D-LOCATION UPDATE REJECT and D-ATTACH/DETACH GROUP IDENTITY ACKNOWLEDGEMENT (clause 16.9.2).
-use Rattle.std.specs.Prelude.{◌≡◌, ℕ, ◌<◌, ◌≤◌, ◌^◌, Bool, false, List, [], ◌∷◌, ◌++◌, length}
+use Rattle.std.specs.Prelude.{◌≡◌, ℕ, ◌<◌, ◌≤◌, ◌^◌, Bool, true, false, List, [], ◌∷◌, ◌++◌, length}
 use Rattle.std.specs.List.{AllByRecursion, list_any}
 use Rattle.identity.specs.Number.{num}
 use Rattle.mm_pdus.specs.Numbers.{Cause}
@@ -53,3 +53,9 @@ module _ {A : Type 0} where
   -- The bits spell the PDU: they are its canonical text, but the reserved bit may be 1.
   abbrev pub SpellsDown : MmDown A → List Bool → Type 0
   SpellsDown pdu bits = IsDown pdu × (reserved : Bool) × (bits ≡ down_text reserved pdu)
+
+  -- an acknowledgement, whose text may be long; an accept or a reject never is
+  abbrev pub is_acknowledgement : MmDown A → Bool
+  is_acknowledgement (Accept update) = false
+  is_acknowledgement (Reject update cause) = false
+  is_acknowledgement (Acknowledge items) = true

@@ -1,12 +1,12 @@
 //! PDUs to a radio.
 
-ghost use Rattle.std.specs.Prelude.{◌≡◌, ◌<◌, ◌≤◌, ◌^◌, ◌++◌, false, length, Ok, OnOk, IfOk, IfErr};
+ghost use Rattle.std.specs.Prelude.{◌≡◌, ◌<◌, ◌≤◌, ◌^◌, ◌+◌, ◌++◌, false, [], length, Ok, OnOk, OnErr, IfOk, IfErr, IsTrue};
 ghost use Rattle.mm_pdus.specs.declared.fault.MmFault.TheVariants.{NoMemory};
 ghost use Rattle.mm_pdus.specs.declared.downlink.MmDown.{MmDown};
 ghost use Rattle.std.specs.List.{AllByRecursion};
 ghost use Rattle.mm_pdus.specs.Values.{most_groups};
 ghost use Rattle.mm_pdus.specs.Groups.{IsGroupDown};
-ghost use Rattle.mm_pdus.specs.Downlink.{SpellsDown, IsDown, canon_down, rejects, accept_text, reject_text, acknowledge_text};
+ghost use Rattle.mm_pdus.specs.Downlink.{SpellsDown, IsDown, canon_down, is_acknowledgement, rejects, accept_text, reject_text, acknowledge_text};
 ghost use Rattle.mm_pdus.specs.Reading.{with_rest, Gives, WantsMemory};
 ghost use Rattle.mm_pdus.specs.GroupReading.{group_down_at, unkept};
 ghost use Rattle.mm_pdus.specs.DownlinkReading.{names_groups, one_element_at, answers_at, accept_at, reject_at};
@@ -170,6 +170,7 @@ pub fn read_down<A: Allocator, B: Allocator>(alloc: A, bits: &Bits<B>) -> Result
 fn put_accept<A: Allocator>(writer: &mut BitWriter<A>, update: AcceptType) -> Result<(), MmFault>
     ensures ok { OnOk result (writer.new ≡ writer.old ++ accept_text update) }
     ensures err { IfErr result (λ e. e ≡ NoMemory) }
+    ensures memory { OnErr result (64 < length writer.old + 8) }
 {
     put(writer, 5, 4)?;
     put(writer, u64::from(update.update().number()), 3)?;
@@ -185,6 +186,7 @@ fn put_reject<A: Allocator>(
     ensures ok { OnOk result (writer.new ≡ writer.old ++ reject_text update cause) }
     ensures range { OnOk result (cause < 2 ^ 5) }
     ensures err { IfErr result (λ e. e ≡ NoMemory) }
+    ensures memory { OnErr result (64 < length writer.old + 14) }
 {
     put(writer, 7, 4)?;
     put(writer, u64::from(update.number()), 3)?;
@@ -213,9 +215,11 @@ fn put_down<A: Allocator, B: Allocator>(
     writer: &mut BitWriter<A>,
     pdu: &MmDown<B>,
 ) -> Result<(), MmFault>
+    requires fresh { writer.old ≡ [] }
     ensures ok { OnOk result (writer.new ≡ writer.old ++ canon_down pdu.now) }
     ensures range { OnOk result (IsDown pdu.now) }
     ensures err { IfErr result (λ e. e ≡ NoMemory) }
+    ensures memory { OnErr result (IsTrue (is_acknowledgement pdu.now)) }
 {
     match pdu {
         MmDown::Accept { update } => put_accept(writer, *update),
@@ -224,12 +228,14 @@ fn put_down<A: Allocator, B: Allocator>(
     }
 }
 
-/// The canonical text of the PDU. The only error is `NoMemory`.
+/// The canonical text of the PDU. The only error is `NoMemory`, which only an acknowledgement can get.
 pub fn write_down<A: Allocator, B: Allocator>(alloc: A, pdu: &MmDown<B>) -> Result<Bits<A>, MmFault>
     ensures ok { IfOk result (λ bits. bits ≡ canon_down pdu.now) }
     // The bits spell the PDU, so `read_down` reads it back.
     ensures spelt { IfOk result (λ bits. SpellsDown pdu.now bits) }
     ensures err { IfErr result (λ e. e ≡ NoMemory) }
+    // An accept and a reject have at most 14 bits, which take no memory.
+    ensures memory { OnErr result (IsTrue (is_acknowledgement pdu.now)) }
 {
     let mut writer = BitWriter::new(alloc);
     put_down(&mut writer, pdu)?;

@@ -5,6 +5,7 @@ use Rattle.std.specs.Option.{option_or}
 use Rattle.std.specs.Ordering.{eq_by_cmp}
 use Rattle.std.specs.FinMap as map
 use Rattle.std.specs.FinMap.{find, get-entries, get-from_entries, get-insert, get-remove, get-empty, same_map}
+use Rattle.base.proofs.Bools.{never}
 use Rattle.identity.specs.Path.{Path, path_cmp, begins}
 use Rattle.identity.specs.Inside.PathLaws.{paths_total, paths_exact, tie_exact}
 use Rattle.prefix_tree.specs.Table.{PathMap}
@@ -38,10 +39,6 @@ module _ {V : Type 0} where
   pub under_wider : (r p : Path) (m : PathMap V) → begins r p ≡ true → KeysUnder p m → KeysUnder r m
   unfolding KeysUnder
   under_wider r p m e keys q off = keys q (never (begins p q) (λ so. false≢true (sym off ∙ begins_trans r p q e so)))
-    where
-      never : (b : Bool) → (b ≡ true → ⊥) → b ≡ false
-      never true h = absurd (h refl)
-      never false h = refl
 
   pub under_off : (p q : Path) (m : PathMap V) → KeysUnder p m → begins p q ≡ false → map.get m q ≡ None
   unfolding KeysUnder

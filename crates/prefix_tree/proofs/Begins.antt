@@ -81,7 +81,8 @@ module _ {X : Type 0} where
   or_none None = refl
   or_none (Some x) = refl
 
-  pub pick_is : (p q : Path) (v a b : Option X) → (begins (p ++ false ∷ []) q ≡ false → a ≡ None) → (begins (p ++ true ∷ []) q ≡ false → b ≡ None) → option_or (cond (eq_by_cmp path_cmp q p) v None) (option_or a b) ≡ pick p q v a b
+  pub pick_is : (p q : Path) (v a b : Option X) → (begins (p ++ false ∷ []) q ≡ false → a ≡ None) → (begins (p ++ true ∷ []) q ≡ false → b ≡ None) →
+      option_or (cond (eq_by_cmp path_cmp q p) v None) (option_or a b) ≡ pick p q v a b
   pick_is [] [] v a b h k = ap (λ z. option_or v (option_or z b)) (h refl) ∙ ap (λ z. option_or v z) (k refl) ∙ or_none v
   pick_is [] (false ∷ q) v a b h k = ap (λ z. option_or a z) (k refl) ∙ or_none a
   pick_is [] (true ∷ q) v a b h k = ap (λ z. option_or z b) (h refl)

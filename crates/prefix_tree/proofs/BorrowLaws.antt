@@ -64,9 +64,13 @@ module _ {V : Type 0} where
       wider : (z : Path) → begins l2.at z ≡ true → begins l.at z ≡ true
       wider z h = begins_trans l.at l2.at z (ap (λ (x : NodeModel V). begins x.at l2.at) (sym is) ∙ next.firm.loose.extends) h
 
-      both : (z : Path) (t : Bool) → begins l.at z ≡ t → (u : Bool) → begins l2.at z ≡ u → cond (begins l.at z) (map.get w1.table z) (map.get s.table z) ≡ cond (begins l2.at z) (map.get w2.table z) (map.get s.table z)
-      both z true a true b = ap (λ t. cond t (map.get w1.table z) (map.get s.table z)) a ∙ inside z ∙ ap (λ t. cond t (map.get w2.table z) (map.get l.table z)) b ∙ sym (ap (λ t. cond t (map.get w2.table z) (map.get s.table z)) b)
-      both z true a false b = ap (λ t. cond t (map.get w1.table z) (map.get s.table z)) a ∙ inside z ∙ ap (λ t. cond t (map.get w2.table z) (map.get l.table z)) b ∙ sym (on.same z a) ∙ sym (ap (λ t. cond t (map.get w2.table z) (map.get s.table z)) b)
+      both : (z : Path) (t : Bool) → begins l.at z ≡ t → (u : Bool) → begins l2.at z ≡ u →
+          cond (begins l.at z) (map.get w1.table z) (map.get s.table z) ≡ cond (begins l2.at z) (map.get w2.table z) (map.get s.table z)
+      both z true a true b = ap (λ t. cond t (map.get w1.table z) (map.get s.table z)) a ∙ inside z ∙
+          ap (λ t. cond t (map.get w2.table z) (map.get l.table z)) b ∙ sym (ap (λ t. cond t (map.get w2.table z) (map.get s.table z)) b)
+      both z true a false b = ap (λ t. cond t (map.get w1.table z) (map.get s.table z)) a ∙ inside z ∙
+          ap (λ t. cond t (map.get w2.table z) (map.get l.table z)) b ∙ sym (on.same z a) ∙
+          sym (ap (λ t. cond t (map.get w2.table z) (map.get s.table z)) b)
       both z false a true b = absurd (false≢true (sym a ∙ wider z b))
       both z false a false b = ap (λ t. cond t (map.get w1.table z) (map.get s.table z)) a ∙ sym (ap (λ t. cond t (map.get w2.table z) (map.get s.table z)) b)
 
@@ -106,7 +110,8 @@ module _ {V : Type 0} where
         inner : (z : Path) → map.get w.table z ≡ cond (eq_by_cmp path_cmp z p) (Some x) (map.get l.table z)
         inner z = ap (λ m. map.get m z) set ∙ get-insert paths_total low.table p x z ∙ ap (λ (y : NodeModel V). cond (eq_by_cmp path_cmp z p) (Some x) (map.get y.table z)) is
 
-        put : (z : Path) (t : Bool) → begins l.at z ≡ t → (u : Bool) → eq_by_cmp path_cmp z p ≡ u → cond (begins l.at z) (map.get w.table z) (map.get s.table z) ≡ cond (eq_by_cmp path_cmp z p) (Some x) (map.get s.table z)
+        put : (z : Path) (t : Bool) → begins l.at z ≡ t → (u : Bool) → eq_by_cmp path_cmp z p ≡ u →
+            cond (begins l.at z) (map.get w.table z) (map.get s.table z) ≡ cond (eq_by_cmp path_cmp z p) (Some x) (map.get s.table z)
         put z true a u b = ap (λ t. cond t (map.get w.table z) (map.get s.table z)) a ∙ inner z ∙ ap (cond (eq_by_cmp path_cmp z p) (Some x)) (sym (on.same z a))
         put z false a true b = absurd (false≢true (sym a ∙ under z b))
         put z false a false b = ap (λ t. cond t (map.get w.table z) (map.get s.table z)) a ∙ sym (ap (λ u. cond u (Some x) (map.get s.table z)) b)
@@ -151,12 +156,18 @@ module _ {V A : Type 0} (n : Inside V A) (d : NodeModel V) (seen : node_view n.a
         }
       where
         here : (q : Path) → map.get d.table q ≡ pick n.at q n.value (map.get (table_of n.zero) q) (map.get l.value.table q)
-        here q = ap (λ m. map.get m q) (sym (table_is n d seen)) ∙ get_around n.at n.value _ _ (zero_keys n d seen sound) (one_keys n d seen sound) q ∙ ap (λ o. pick n.at q n.value (map.get (table_of n.zero) q) (map.get (table_of o) q)) is
+        here q = ap (λ m. map.get m q) (sym (table_is n d seen)) ∙ get_around n.at n.value _ _ (zero_keys n d seen sound) (one_keys n d seen sound) q
+            ∙ ap (λ o. pick n.at q n.value (map.get (table_of n.zero) q) (map.get (table_of o) q)) is
 
-        split : (q : Path) (t : Bool) → begins l.value.at q ≡ t → IsFirm (n.at ++ true ∷ []) l.value → IsFirm (n.at ++ true ∷ []) w.value → pick n.at q n.value (map.get (table_of n.zero) q) (map.get w.value.table q) ≡ cond (begins l.value.at q) (map.get w.value.table q) (map.get d.table q)
-        split q true on old new = pick_one n.at q n.value _ _ (begins_trans (n.at ++ true ∷ []) l.value.at q old.loose.extends on) ∙ sym (ap (λ t. cond t (map.get w.value.table q) (map.get d.table q)) on)
+        split : (q : Path) (t : Bool) → begins l.value.at q ≡ t → IsFirm (n.at ++ true ∷ []) l.value → IsFirm (n.at ++ true ∷ []) w.value →
+            pick n.at q n.value (map.get (table_of n.zero) q) (map.get w.value.table q) ≡ cond (begins l.value.at q) (map.get w.value.table q)
+            (map.get d.table q)
+        split q true on old new = pick_one n.at q n.value _ _ (begins_trans (n.at ++ true ∷ []) l.value.at q old.loose.extends on) ∙
+            sym (ap (λ t. cond t (map.get w.value.table q) (map.get d.table q)) on)
         split q false off old new =
-            ap (pick n.at q n.value (map.get (table_of n.zero) q)) (under_off w.value.at q w.value.table new.loose.keys (ap (λ p. begins p q) like.at ∙ off) ∙ sym (under_off l.value.at q l.value.table old.loose.keys off))
+            ap (pick n.at q n.value (map.get (table_of n.zero) q))
+            (under_off w.value.at q w.value.table new.loose.keys (ap (λ p. begins p q) like.at ∙ off) ∙
+            sym (under_off l.value.at q l.value.table old.loose.keys off))
             ∙ sym (here q) ∙ sym (ap (λ t. cond t (map.get w.value.table q) (map.get d.table q)) off)
 
     -- another node in the place of the one under 0
@@ -179,12 +190,18 @@ module _ {V A : Type 0} (n : Inside V A) (d : NodeModel V) (seen : node_view n.a
         }
       where
         here : (q : Path) → map.get d.table q ≡ pick n.at q n.value (map.get l.value.table q) (map.get (table_of n.one) q)
-        here q = ap (λ m. map.get m q) (sym (table_is n d seen)) ∙ get_around n.at n.value _ _ (zero_keys n d seen sound) (one_keys n d seen sound) q ∙ ap (λ o. pick n.at q n.value (map.get (table_of o) q) (map.get (table_of n.one) q)) is
+        here q = ap (λ m. map.get m q) (sym (table_is n d seen)) ∙ get_around n.at n.value _ _ (zero_keys n d seen sound) (one_keys n d seen sound) q
+            ∙ ap (λ o. pick n.at q n.value (map.get (table_of o) q) (map.get (table_of n.one) q)) is
 
-        split : (q : Path) (t : Bool) → begins l.value.at q ≡ t → IsFirm (n.at ++ false ∷ []) l.value → IsFirm (n.at ++ false ∷ []) w.value → pick n.at q n.value (map.get w.value.table q) (map.get (table_of n.one) q) ≡ cond (begins l.value.at q) (map.get w.value.table q) (map.get d.table q)
-        split q true on old new = pick_zero n.at q n.value _ _ (begins_trans (n.at ++ false ∷ []) l.value.at q old.loose.extends on) ∙ sym (ap (λ t. cond t (map.get w.value.table q) (map.get d.table q)) on)
+        split : (q : Path) (t : Bool) → begins l.value.at q ≡ t → IsFirm (n.at ++ false ∷ []) l.value → IsFirm (n.at ++ false ∷ []) w.value →
+            pick n.at q n.value (map.get w.value.table q) (map.get (table_of n.one) q) ≡ cond (begins l.value.at q) (map.get w.value.table q)
+            (map.get d.table q)
+        split q true on old new = pick_zero n.at q n.value _ _ (begins_trans (n.at ++ false ∷ []) l.value.at q old.loose.extends on) ∙
+            sym (ap (λ t. cond t (map.get w.value.table q) (map.get d.table q)) on)
         split q false off old new =
-            ap (λ o. pick n.at q n.value o (map.get (table_of n.one) q)) (under_off w.value.at q w.value.table new.loose.keys (ap (λ p. begins p q) like.at ∙ off) ∙ sym (under_off l.value.at q l.value.table old.loose.keys off))
+            ap (λ o. pick n.at q n.value o (map.get (table_of n.one) q))
+            (under_off w.value.at q w.value.table new.loose.keys (ap (λ p. begins p q) like.at ∙ off) ∙
+            sym (under_off l.value.at q l.value.table old.loose.keys off))
             ∙ sym (here q) ∙ sym (ap (λ t. cond t (map.get w.value.table q) (map.get d.table q)) off)
 
   -- the node under a side on the way
@@ -210,7 +227,8 @@ pub none_never : {V A : Type 0} (P : Type 0) (r : Option (MutBor (Box (NodeModel
 none_never P None o q is on = absurd (false≢true (ap (λ z. leads_to z q) is ∙ on))
 none_never P (Some l) o q is on = tt
 
-pub way_far : {V A : Type 0} (r : Option (MutBor (Box (NodeModel V) A))) (s : NodeModel V) (q : Path) → IfSome r (λ l. IsOnWay s q l.now.value) → IfSome r (λ l. (n : ℕ) → n ≤ length s.at + 1 → n ≤ length q → n ≤ length l.now.value.at)
+pub way_far : {V A : Type 0} (r : Option (MutBor (Box (NodeModel V) A))) (s : NodeModel V) (q : Path) → IfSome r (λ l. IsOnWay s q l.now.value) →
+    IfSome r (λ l. (n : ℕ) → n ≤ length s.at + 1 → n ≤ length q → n ≤ length l.now.value.at)
 way_far None s q h = tt
 way_far (Some l) s q h = λ n a b. let k = h.longer in omega (arith, k, a)
 
@@ -218,14 +236,16 @@ module _ {V A : Type 0} (n : Inside V A) (d : NodeModel V) (seen : node_view n.a
   pub one_borrowed : option_copied_mut r ≡ n.one → (w : Box (NodeModel V) A) → IfSome r (λ l. IsLike l.now.value w.value → IsGrafted d l.now.value (node_view n.at n.value n.zero (Some w)) w.value)
   one_borrowed is w = at r is
     where
-      at : (r : Option (MutBor (Box (NodeModel V) A))) → option_copied_mut r ≡ n.one → IfSome r (λ l. IsLike l.now.value w.value → IsGrafted d l.now.value (node_view n.at n.value n.zero (Some w)) w.value)
+      at : (r : Option (MutBor (Box (NodeModel V) A))) → option_copied_mut r ≡ n.one →
+          IfSome r (λ l. IsLike l.now.value w.value → IsGrafted d l.now.value (node_view n.at n.value n.zero (Some w)) w.value)
       at None is = tt
       at (Some l) is = λ like. one_grafted n d seen sound l.now w like (sym is)
 
   pub zero_borrowed : option_copied_mut r ≡ n.zero → (w : Box (NodeModel V) A) → IfSome r (λ l. IsLike l.now.value w.value → IsGrafted d l.now.value (node_view n.at n.value (Some w) n.one) w.value)
   zero_borrowed is w = at r is
     where
-      at : (r : Option (MutBor (Box (NodeModel V) A))) → option_copied_mut r ≡ n.zero → IfSome r (λ l. IsLike l.now.value w.value → IsGrafted d l.now.value (node_view n.at n.value (Some w) n.one) w.value)
+      at : (r : Option (MutBor (Box (NodeModel V) A))) → option_copied_mut r ≡ n.zero →
+          IfSome r (λ l. IsLike l.now.value w.value → IsGrafted d l.now.value (node_view n.at n.value (Some w) n.one) w.value)
       at None is = tt
       at (Some l) is = λ like. zero_grafted n d seen sound l.now w like (sym is)
 
@@ -245,7 +265,9 @@ module _ {V A : Type 0} (n : Inside V A) (d : NodeModel V) (seen : node_view n.a
         at (Some l) is = zero_way n d seen sound q l.now (sym is) on
 
     -- what the step to the link cost
-    pub step_cost : (o : Option (Box (NodeModel V) A)) (before after : ℕ) → option_copied_mut r ≡ o → leads_to o q ≡ true → visits_beyond d.table d.at q ≡ link_visits o q → after ≡ before + cond (is_some o) 1 0 → IfSome r (λ l. after + visits_beyond l.now.value.table l.now.value.at q ≡ before + visits_beyond d.table d.at q)
+    pub step_cost : (o : Option (Box (NodeModel V) A)) (before after : ℕ) → option_copied_mut r ≡ o → leads_to o q ≡ true →
+        visits_beyond d.table d.at q ≡ link_visits o q → after ≡ before + cond (is_some o) 1 0 →
+        IfSome r (λ l. after + visits_beyond l.now.value.table l.now.value.at q ≡ before + visits_beyond d.table d.at q)
     step_cost o before after is on step cost = at r is
       where
         at : (r : Option (MutBor (Box (NodeModel V) A))) → option_copied_mut r ≡ o → IfSome r (λ l. after + visits_beyond l.now.value.table l.now.value.at q ≡ before + visits_beyond d.table d.at q)
@@ -254,14 +276,6 @@ module _ {V A : Type 0} (n : Inside V A) (d : NodeModel V) (seen : node_view n.a
             let one = some_one o l.now (sym is) in
             let more : link_visits o q ≡ 1 + visits_beyond l.now.value.table l.now.value.at q = visits_on o q l.now l.now.value (sym is) refl on in
             omega (arith, cost, one, more, step)
-
-pub if_some : {T : Type 0} {P Q : T → Type 0} (r : Option T) → ((x : T) → P x → Q x) → IfSome r P → IfSome r Q
-if_some None f h = h
-if_some (Some x) f h = f x h
-
-pub if_none : {T P Q : Type 0} (r : Option T) → (P → Q) → IfNone r P → IfNone r Q
-if_none None f h = f h
-if_none (Some x) f h = h
 
 same_lengths : (a b : ℕ) (t : Bool) → t ≡ nat_eq a b → t ≡ true → a ≡ b
 same_lengths a b t is so = let e : nat_eq a b ≡ true = sym is ∙ so in grind (arith, nat_tests, e)
@@ -290,7 +304,8 @@ module _ {V : Type 0} (s l : NodeModel V) (q : Path) (on : IsOnWay s q l) where
           | inr other ↦ omega (arith, le, h, other)
         ]
 
-    pub far_again : (h k : ℕ) → k ≡ h + h → ((n : ℕ) → n ≤ length s.at + h → n ≤ length q → n ≤ length l.at) → (m : ℕ) → ((n : ℕ) → n ≤ length low.at + h → n ≤ length q → n ≤ m) → (n : ℕ) → n ≤ length s.at + k → n ≤ length q → n ≤ m
+    pub far_again : (h k : ℕ) → k ≡ h + h → ((n : ℕ) → n ≤ length s.at + h → n ≤ length q → n ≤ length l.at) → (m : ℕ) →
+        ((n : ℕ) → n ≤ length low.at + h → n ≤ length q → n ≤ m) → (n : ℕ) → n ≤ length s.at + k → n ≤ length q → n ≤ m
     far_again h k twice one m two n a b =
         let near = one (n - h) (omega (arith, a, twice)) (omega (arith, b)) in
         let e = same_at in
@@ -299,8 +314,12 @@ module _ {V : Type 0} (s l : NodeModel V) (q : Path) (on : IsOnWay s q l) where
     pub none_again : map.get low.table q ≡ None → map.get s.table q ≡ None
     none_again none = on.same q on.leads ∙ ap (λ (x : NodeModel V). map.get x.table q) (sym is) ∙ none
 
-    pub cost_again : (before mid : ℕ) → mid + visits_beyond l.table l.at q ≡ before + visits_beyond s.table s.at q → (after more : ℕ) → after + more ≡ mid + visits_beyond low.table low.at q → after + more ≡ before + visits_beyond s.table s.at q
-    cost_again before mid one after more two = let e : visits_beyond low.table low.at q ≡ visits_beyond l.table l.at q = ap (λ (x : NodeModel V). visits_beyond x.table x.at q) is in omega (arith, one, two, e)
+    pub cost_again : (before mid : ℕ) → mid + visits_beyond l.table l.at q ≡ before + visits_beyond s.table s.at q → (after more : ℕ) →
+        after + more ≡ mid + visits_beyond low.table low.at q → after + more ≡ before + visits_beyond s.table s.at q
+    cost_again before mid one after more two = let e : visits_beyond low.table low.at q ≡ visits_beyond l.table l.at q =
+        ap (λ (x : NodeModel V). visits_beyond x.table x.at q) is in omega (arith, one, two, e)
 
-    pub cost_ended : (before mid : ℕ) → mid + visits_beyond l.table l.at q ≡ before + visits_beyond s.table s.at q → (after : ℕ) → after ≡ mid + visits_beyond low.table low.at q → after ≡ before + visits_beyond s.table s.at q
-    cost_ended before mid one after two = let e : visits_beyond low.table low.at q ≡ visits_beyond l.table l.at q = ap (λ (x : NodeModel V). visits_beyond x.table x.at q) is in omega (arith, one, two, e)
+    pub cost_ended : (before mid : ℕ) → mid + visits_beyond l.table l.at q ≡ before + visits_beyond s.table s.at q → (after : ℕ) →
+        after ≡ mid + visits_beyond low.table low.at q → after ≡ before + visits_beyond s.table s.at q
+    cost_ended before mid one after two = let e : visits_beyond low.table low.at q ≡ visits_beyond l.table l.at q =
+        ap (λ (x : NodeModel V). visits_beyond x.table x.at q) is in omega (arith, one, two, e)

@@ -42,7 +42,9 @@ module _ {V A : Type 0} (n : Inside V A) (d : NodeModel V) (seen : node_view n.a
   pub few_nodes : (a b : ℕ) → a ≤ 2 * map.len (table_of n.zero) → b ≤ 2 * map.len (table_of n.one) → 1 + a + b ≤ 2 * map.len d.table + 1
   few_nodes a b p q = count_any (is_some n.value) a b _ _ _ node_len p q
 
-  pub full_nodes : (a b : ℕ) → IsTrue (is_place d.table d.at) → a ≤ 2 * map.len (table_of n.zero) → b ≤ 2 * map.len (table_of n.one) → (IsTrue (is_some n.zero) → a + 1 ≤ 2 * map.len (table_of n.zero)) → (IsTrue (is_some n.one) → b + 1 ≤ 2 * map.len (table_of n.one)) → 1 + a + b + 1 ≤ 2 * map.len d.table
+  pub full_nodes : (a b : ℕ) → IsTrue (is_place d.table d.at) → a ≤ 2 * map.len (table_of n.zero) → b ≤ 2 * map.len (table_of n.one) →
+      (IsTrue (is_some n.zero) → a + 1 ≤ 2 * map.len (table_of n.zero)) → (IsTrue (is_some n.one) → b + 1 ≤ 2 * map.len (table_of n.one)) →
+      1 + a + b + 1 ≤ 2 * map.len d.table
   full_nodes a b full p q f g = count_full (is_some n.value) (is_some n.zero) (is_some n.one) a b _ _ _ (sym (place_parts n d seen sound) ∙ full) node_len p q f g
 
 pub length_push : (p : List Bool) (b : Bool) → length (p ++ b ∷ []) ≡ length p + 1

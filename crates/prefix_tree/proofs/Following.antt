@@ -9,9 +9,10 @@ use Rattle.std.specs.List.{All}
 use Rattle.std.specs.Cmp.{IsTotalOrder}
 use Rattle.std.specs.Ordering.{is_lt, ordering_reverse}
 use Rattle.std.specs.declared.cmp.Ordering.{Ordering}
-use Rattle.std.specs.declared.cmp.Ordering.TheVariants.{Less, Equal, Greater}
+use Rattle.std.specs.declared.cmp.Ordering.TheVariants.{Less}
 use Rattle.std.specs.FinMap.{is_sorted}
 use Rattle.std.specs.FinMap.Entries.{below_all}
+use Rattle.base.proofs.Bools.{less_if}
 use Rattle.prefix_tree.specs.Following.{next_of, AreRising, then_on, one_by_one}
 
 first : (a b : Bool) → T (a && b) → T a
@@ -22,11 +23,6 @@ second : (a b : Bool) → T (a && b) → T b
 second true b p = p
 second false b p = absurd p
 
-less_is : (o : Ordering) → T (is_lt o) → o ≡ Less
-less_is Less p = refl
-less_is Equal p = absurd p
-less_is Greater p = absurd p
-
 module _ {K X : Type 0} (cmp : K → K → Ordering) where
   -- the entries of a map rise by their keys
   pub sorted_rise : (es : List (K × X)) → T (is_sorted cmp es) → AreRising cmp (λ e. e.0) es
@@ -35,7 +31,7 @@ module _ {K X : Type 0} (cmp : K → K → Ordering) where
     where
       below : (fs : List (K × X)) → T (below_all cmp e.0 fs) → All (λ f. cmp e.0 f.0 ≡ Less) fs
       below [] h = All-nil (λ f. cmp e.0 f.0 ≡ Less)
-      below (f ∷ fs) h = All-cons (λ f. cmp e.0 f.0 ≡ Less) f fs (less_is _ (first _ _ h)) (below fs (second _ _ h))
+      below (f ∷ fs) h = All-cons (λ f. cmp e.0 f.0 ≡ Less) f fs (less_if _ (first _ _ h)) (below fs (second _ _ h))
 
 module _ {K X : Type 0} (cmp : K → K → Ordering) (total : IsTotalOrder cmp) (key : X → K) where
   rest_rises : (x : X) (xs : List X) → AreRising cmp key (x ∷ xs) → AreRising cmp key xs
@@ -64,7 +60,8 @@ module _ {K X : Type 0} (cmp : K → K → Ordering) (total : IsTotalOrder cmp) 
       ap (λ t. cond t (Some a) (next_of cmp key (cs ++ e ∷ bs) (Some (key e)))) (not_before a e before) ∙ next_there cs bs e (rest_rises a (cs ++ e ∷ bs) h)
 
   -- from where the items bs are left
-  follow : (xs : List X) → AreRising cmp key xs → (n : ℕ) (after : Option K) (cs bs : List X) → xs ≡ cs ++ bs → next_of cmp key xs after ≡ next_of cmp key bs None → length bs ≤ n → one_by_one (next_of cmp key xs) key n after ≡ bs
+  follow : (xs : List X) → AreRising cmp key xs → (n : ℕ) (after : Option K) (cs bs : List X) → xs ≡ cs ++ bs →
+      next_of cmp key xs after ≡ next_of cmp key bs None → length bs ≤ n → one_by_one (next_of cmp key xs) key n after ≡ bs
   follow xs rise zero after cs [] is next le = refl
   follow xs rise zero after cs (b ∷ bs) is next le = absurd (omega (arith, le))
   follow xs rise (suc n) after cs [] is next le = ap (then_on (λ x. one_by_one (next_of cmp key xs) key n (Some (key x)))) next

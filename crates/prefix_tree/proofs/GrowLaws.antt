@@ -16,7 +16,8 @@ use Rattle.prefix_tree.proofs.AroundLaws.{under_empty, keys_insert, insert_here,
 use Rattle.prefix_tree.proofs.NodeLaws.{keys_of}
 
 module _ {V A : Type 0} where
-  pub parting_is : (b : Box (NodeModel V) A) (at q : Path) (side : Bool) → IsFirm [] b.value → begins b.value.at q ≡ false → at ≡ common b.value.at q → IsTrue (begins (at ++ side ∷ []) b.value.at) → IsParting (Some b) q at side
+  pub parting_is : (b : Box (NodeModel V) A) (at q : Path) (side : Bool) → IsFirm [] b.value → begins b.value.at q ≡ false →
+      at ≡ common b.value.at q → IsTrue (begins (at ++ side ∷ []) b.value.at) → IsParting (Some b) q at side
   parting_is b at q side firm off is goes =
       let second : begins at q ≡ true = ap (λ z. begins z q) is ∙ common_second b.value.at q in
       let goes_on : begins (common b.value.at q ++ side ∷ []) b.value.at ≡ true = subst (λ z. begins (z ++ side ∷ []) b.value.at ≡ true) is goes in
@@ -35,7 +36,8 @@ module _ {V : Type 0} where
   spread_here p false old x keys = insert_here p None old map.empty keys (under_empty V _) x ∙ ap (λ m. map.insert m p x) (around_zero p old keys)
 
   -- a new node above what is there and the key's
-  pub spread_beside : (p k : Path) (side : Bool) (old : PathMap V) (x : V) → KeysUnder (p ++ side ∷ []) old → begins (p ++ not side ∷ []) k ≡ true → spread p None side old (map.insert map.empty k x) ≡ map.insert old k x
+  pub spread_beside : (p k : Path) (side : Bool) (old : PathMap V) (x : V) → KeysUnder (p ++ side ∷ []) old → begins (p ++ not side ∷ []) k ≡ true →
+      spread p None side old (map.insert map.empty k x) ≡ map.insert old k x
   spread_beside p k true old x keys other = insert_zero p None map.empty old (under_empty V _) keys k x other ∙ ap (λ m. map.insert m k x) (around_one p old keys)
   spread_beside p k false old x keys other = insert_one p None old map.empty keys (under_empty V _) k x other ∙ ap (λ m. map.insert m k x) (around_zero p old keys)
 
@@ -50,12 +52,6 @@ module _ {V : Type 0} where
     place = ap (is_place d.table) at ∙ ap (λ m. is_place m k) table ∙ place_single map.empty k x;
   }
 
-  pub top_firm : (d : NodeModel V) (at p : Path) → d.at ≡ at → KeysUnder at d.table → IsTrue (is_place d.table at) → IsTrue d.sound → IsTrue (begins p at) → IsFirm p d
-  top_firm d at p is keys place sound begun = record {
-    loose = record { extends = subst (λ z. begins p z ≡ true) (sym is) begun; keys = subst (λ z. KeysUnder z d.table) (sym is) keys; sound = sound };
-    place = ap (is_place d.table) is ∙ place;
-  }
-
 module _ {V A : Type 0} (p : Path) (v : Option V) (side : Bool) (old other : Option (Box (NodeModel V) A)) (u : IsUnder (p ++ side ∷ []) old) (w : IsUnder (p ++ not side ∷ []) other) where
   pub above_one : side ≡ true → KeysUnder p (around p v (table_of other) (table_of old))
   above_one e = keys_around p v (table_of other) (table_of old) (keys_of _ other (subst (λ b. IsUnder (p ++ not b ∷ []) other) e w)) (keys_of _ old (subst (λ b. IsUnder (p ++ b ∷ []) old) e u))
@@ -68,13 +64,15 @@ module _ {V A : Type 0} (p : Path) (v : Option V) (side : Bool) (old other : Opt
   place_one e =
       let left : IsUnder (p ++ false ∷ []) other = subst (λ b. IsUnder (p ++ not b ∷ []) other) e w in
       let right : IsUnder (p ++ true ∷ []) old = subst (λ b. IsUnder (p ++ b ∷ []) old) e u in
-      place_around p v (table_of other) (table_of old) (keys_of _ other left) (keys_of _ old right) ∙ (λ i. is_some v || goes_link (p ++ false ∷ []) other left i && goes_link (p ++ true ∷ []) old right i)
+      place_around p v (table_of other) (table_of old) (keys_of _ other left) (keys_of _ old right) ∙
+      (λ i. is_some v || goes_link (p ++ false ∷ []) other left i && goes_link (p ++ true ∷ []) old right i)
 
   place_zero : side ≡ false → is_place (around p v (table_of old) (table_of other)) p ≡ (is_some v || is_some old && is_some other)
   place_zero e =
       let left : IsUnder (p ++ false ∷ []) old = subst (λ b. IsUnder (p ++ b ∷ []) old) e u in
       let right : IsUnder (p ++ true ∷ []) other = subst (λ b. IsUnder (p ++ not b ∷ []) other) e w in
-      place_around p v (table_of old) (table_of other) (keys_of _ old left) (keys_of _ other right) ∙ (λ i. is_some v || goes_link (p ++ false ∷ []) old left i && goes_link (p ++ true ∷ []) other right i)
+      place_around p v (table_of old) (table_of other) (keys_of _ old left) (keys_of _ other right) ∙
+      (λ i. is_some v || goes_link (p ++ false ∷ []) old left i && goes_link (p ++ true ∷ []) other right i)
 
   pub valued_one : side ≡ true → IsTrue (is_some v) → IsTrue (is_place (around p v (table_of other) (table_of old)) p)
   valued_one e h = place_one e ∙ ap (λ b. b || is_some other && is_some old) h
@@ -113,12 +111,16 @@ module _ {V A : Type 0} (o : Option (Box (NodeModel V) A)) (q p : Path) (side : 
       let whole : p ≡ q = begins_whole p q parting.on_the_way (omega (arith, lens)) in
       is ∙ ap (λ z. spread p (Some x) side (table_of z) map.empty) same ∙ spread_here p side (table_of o) x (keys_of _ o parting.old_side) ∙ ap (λ z. map.insert (table_of o) z x) whole
 
-  pub grown_beside : (old : Option (Box (NodeModel V) A)) (t low : PathMap V) (x : V) → old ≡ o → (length p ≡ length q → ⊥) → low ≡ map.insert map.empty q x → t ≡ spread p None side (table_of old) low → t ≡ map.insert (table_of o) q x
+  pub grown_beside : (old : Option (Box (NodeModel V) A)) (t low : PathMap V) (x : V) → old ≡ o → (length p ≡ length q → ⊥) →
+      low ≡ map.insert map.empty q x → t ≡ spread p None side (table_of old) low → t ≡ map.insert (table_of o) q x
   grown_beside old t low x same apart leaf is =
       is ∙ (λ i. spread p None side (table_of (same i)) (leaf i)) ∙ spread_beside p q side (table_of o) x (keys_of _ o parting.old_side) (parting.other_side (shorter apart))
 
   pub beside_firm : (d : NodeModel V) → (length p ≡ length q → ⊥) → ((r : Path) → IsTrue (begins r q) → IsFirm r d) → IsFirm (p ++ not side ∷ []) d
   beside_firm d apart firm = firm (p ++ not side ∷ []) (parting.other_side (shorter apart))
 
-pub parting_here : {V A : Type 0} → (o : Option (Box (NodeModel V) A)) (b : Box (NodeModel V) A) (at q : Path) (side : Bool) → o ≡ Some b → IsUnder [] o → leads_to o q ≡ false → at ≡ common b.value.at q → IsTrue (begins (at ++ side ∷ []) b.value.at) → IsParting o q at side
-parting_here o b at q side is under off common goes = subst (λ z. IsParting z q at side) (sym is) (parting_is b at q side (subst (λ z. IsUnder [] z) is under) (ap (λ z. leads_to z q) (sym is) ∙ off) common goes)
+pub parting_here : {V A : Type 0} → (o : Option (Box (NodeModel V) A)) (b : Box (NodeModel V) A) (at q : Path) (side : Bool) → o ≡ Some b →
+    IsUnder [] o → leads_to o q ≡ false → at ≡ common b.value.at q → IsTrue (begins (at ++ side ∷ []) b.value.at) → IsParting o q at side
+parting_here o b at q side is under off common goes =
+    subst (λ z. IsParting z q at side) (sym is)
+    (parting_is b at q side (subst (λ z. IsUnder [] z) is under) (ap (λ z. leads_to z q) (sym is) ∙ off) common goes)

@@ -5,12 +5,14 @@ use Rattle.std.specs.Prelude.{IsTrue, not, ◌&&◌, ◌||◌}
 use Rattle.std.specs.Option.{is_some, is_none}
 use Rattle.std.specs.FinMap as map
 use Rattle.std.specs.declared.boxed.Box.{Box}
+use Rattle.base.proofs.Bools.{first_false, second_false}
+use Rattle.base.proofs.Options.{none_of}
 use Rattle.identity.specs.Path.{Path, begins}
 use Rattle.prefix_tree.specs.declared.node.Node.TheInside.{Inside}
 use Rattle.prefix_tree.specs.Inside.Around.{NodeModel, around, table_of, IsLoose, IsUnder, node_view}
 use Rattle.prefix_tree.proofs.Begins.{begins_trans, begins_self, side_begins}
 use Rattle.prefix_tree.proofs.AroundLaws.{around_zero, around_one}
-use Rattle.prefix_tree.proofs.NodeLaws.{at_is, table_is, fits, zero_keys, one_keys, none_after}
+use Rattle.prefix_tree.proofs.NodeLaws.{at_is, table_is, fits, zero_keys, one_keys}
 use Rattle.prefix_tree.proofs.NodePlaces.{place_around, goes_link}
 use Rattle.prefix_tree.specs.Visits.{is_place}
 
@@ -18,21 +20,9 @@ pub none_if : {X : Type 0} → (o : Option X) → is_none o ≡ true → o ≡ N
 none_if None e = refl
 none_if (Some x) e = absurd (false≢true e)
 
-none_of : {X : Type 0} → (o : Option X) → is_some o ≡ false → o ≡ None
-none_of None e = refl
-none_of (Some x) e = absurd (false≢true (sym e))
-
 some_of : {X : Type 0} → (o : Option X) → is_none o ≡ false → is_some o ≡ true
 some_of None e = absurd (false≢true (sym e))
 some_of (Some x) e = refl
-
-first_not : (a b : Bool) → (a || b) ≡ false → a ≡ false
-first_not true b e = e
-first_not false b e = refl
-
-second_not : (a b : Bool) → (a || b) ≡ false → b ≡ false
-second_not true b e = absurd (false≢true (sym e))
-second_not false b e = e
 
 one_not : (a b : Bool) → (a && b) ≡ false → b ≡ true → a ≡ false
 one_not true b e f = absurd (false≢true (sym e ∙ f))
@@ -43,7 +33,8 @@ under_up p r None begun h = tt
 under_up p r (Some b) begun h = record { loose = record { extends = begins_trans p r b.value.at begun h.loose.extends; keys = h.loose.keys; sound = h.loose.sound }; place = h.place }
 
 -- a node has a value or both sides where the map says that it is a place
-pub place_parts : {V A : Type 0} → (n : Inside V A) (d : NodeModel V) (seen : node_view n.at n.value n.zero n.one ≡ d) → IsTrue d.sound → is_place d.table d.at ≡ (is_some n.value || is_some n.zero && is_some n.one)
+pub place_parts : {V A : Type 0} → (n : Inside V A) (d : NodeModel V) (seen : node_view n.at n.value n.zero n.one ≡ d) → IsTrue d.sound →
+    is_place d.table d.at ≡ (is_some n.value || is_some n.zero && is_some n.one)
 place_parts n d seen sound =
     (λ i. is_place (sym (table_is n d seen) i) (sym (at_is n d seen) i))
     ∙ place_around n.at n.value _ _ (zero_keys n d seen sound) (one_keys n d seen sound)
@@ -54,7 +45,7 @@ module _ {V A : Type 0} (n : Inside V A) (d : NodeModel V) (seen : node_view n.a
   not_full = sym (place_parts n d seen sound) ∙ lone
 
   bare : n.value ≡ None
-  bare = none_of n.value (first_not _ _ not_full)
+  bare = none_of n.value (first_false _ _ not_full)
 
   pub only_zero : is_none n.one ≡ true → table_of n.zero ≡ d.table
   only_zero none =
@@ -63,7 +54,7 @@ module _ {V A : Type 0} (n : Inside V A) (d : NodeModel V) (seen : node_view n.a
 
   pub only_one : is_none n.one ≡ false → table_of n.one ≡ d.table
   only_one some =
-      let zero : n.zero ≡ None = none_of n.zero (one_not _ _ (second_not _ _ not_full) (some_of n.one some)) in
+      let zero : n.zero ≡ None = none_of n.zero (one_not _ _ (second_false _ _ not_full) (some_of n.one some)) in
       sym (around_one n.at (table_of n.one) (one_keys n d seen sound))
       ∙ (λ i. around n.at (sym bare i) (table_of (sym zero i)) (table_of n.one)) ∙ table_is n d seen
 
@@ -78,9 +69,6 @@ module _ {V A : Type 0} (n : Inside V A) (d : NodeModel V) (seen : node_view n.a
     where
       ends : (p r : Path) (b : Bool) → begins p r ≡ true → begins p (r ++ b ∷ []) ≡ true
       ends p r b e = begins_trans p r (r ++ b ∷ []) e (side_begins r (r ++ b ∷ []) b (begins_self (r ++ b ∷ [])))
-
-pub none_to_take : {V A : Type 0} → (o : Option (Box (NodeModel V) A)) (q : Path) → is_none o ≡ true → map.get (table_of o) q ≡ None
-none_to_take o q none = none_after o q (none_if o none)
 
 -- what the code's `is_none` says
 pub none_test : {X : Type 0} → (o : Option X) (b c : Bool) → is_some o ≡ not b → b ≡ c → is_none o ≡ c

@@ -44,7 +44,8 @@ module _ {V : Type 0} where
   cut_at : (m : PathMap V) (q p : Path) (n : ℕ) → begins p q ≡ true → length p ≡ n → map.get m (take n q) ≡ None → map.get m p ≡ None
   cut_at m q p n begun is none = ap (map.get m) (begins_then p q begun ∙ ap (λ k. take k q) is) ∙ none
 
-  one_more : (m : PathMap V) (q : Path) (n : ℕ) (o : Option V) (r : Option (Path × V)) → n ≤ length q → map.get m (take n q) ≡ o → NamesBelow m q n r → NamesBelow m q (suc n) (option_or (option_map (λ v. (take n q, v)) o) r)
+  one_more : (m : PathMap V) (q : Path) (n : ℕ) (o : Option V) (r : Option (Path × V)) → n ≤ length q → map.get m (take n q) ≡ o →
+      NamesBelow m q n r → NamesBelow m q (suc n) (option_or (option_map (λ v. (take n q, v)) o) r)
   one_more m q n (Some v) r fits got h = record {
     in_map = got;
     begins_path = begins-take n q;

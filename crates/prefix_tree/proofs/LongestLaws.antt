@@ -5,12 +5,12 @@ use Rattle.std.specs.Prelude.{IsTrue}
 use Rattle.std.specs.Option.{option_or, option_map}
 use Rattle.std.specs.FinMap as map
 use Rattle.std.specs.declared.boxed.Box.{Box}
+use Rattle.base.proofs.Bools.{never as never_so}
 use Rattle.identity.specs.Path.{Path, begins}
 use Rattle.prefix_tree.specs.Table.{PathMap, longest, longest_below}
 use Rattle.prefix_tree.specs.Inside.Around.{NodeModel, table_of, IsFirm, IsUnder}
 use Rattle.prefix_tree.proofs.Begins.{begins_self, begins_trans, begins_length, side_begins, longer_side}
 use Rattle.prefix_tree.proofs.AroundLaws.{under_off}
-use Rattle.prefix_tree.proofs.NodePlaces.{never_so}
 use Rattle.prefix_tree.proofs.NodeLaws.{firm_node, none_after, table_after}
 
 module _ {V : Type 0} where
@@ -89,7 +89,8 @@ module _ {V : Type 0} (m : PathMap V) (q : Path) (d : NodeModel V) (on : IsTrue 
   unfolding longest
   found_whole le = let h = begins_length d.at q on in let e : length d.at + 1 ≡ length q + 1 = omega (arith, le, h) in ap (longest_below m q) e
 
-  module _ {A : Type 0} (b : Bool) (o : Option (Box (NodeModel V) A)) (side : IsTrue (begins (d.at ++ b ∷ []) q)) (under : IsUnder (d.at ++ b ∷ []) o) (table : (z : Path) → IsTrue (begins (d.at ++ b ∷ []) z) → map.get d.table z ≡ map.get (table_of o) z) where
+  module _ {A : Type 0} (b : Bool) (o : Option (Box (NodeModel V) A)) (side : IsTrue (begins (d.at ++ b ∷ []) q)) (under : IsUnder (d.at ++ b ∷ []) o)
+      (table : (z : Path) → IsTrue (begins (d.at ++ b ∷ []) z) → map.get d.table z ≡ map.get (table_of o) z) where
     past : (j : ℕ) → length d.at + 1 ≤ j → map.get m (take j q) ≡ map.get (table_of o) (take j q)
     past j lo =
         let long : length (d.at ++ b ∷ []) ≤ j = let h = length-append d.at (b ∷ []) in omega (arith, lo, h) in

@@ -7,6 +7,8 @@ use Rattle.std.specs.Ordering.{is_lt}
 use Rattle.std.specs.FinMap as map
 use Rattle.std.specs.FinMap.{len-entries, len-empty}
 use Rattle.std.specs.declared.boxed.Box.{Box}
+use Rattle.base.proofs.Bools.{never}
+use Rattle.base.proofs.Lists.{nil_of_length}
 use Rattle.prefix_tree.specs.declared.node.Node.TheInside.{Inside}
 use Rattle.identity.specs.Path.{Path, path_cmp, begins}
 use Rattle.prefix_tree.specs.Table.{PathMap}
@@ -15,7 +17,7 @@ use Rattle.prefix_tree.specs.Visits.{goes_on, any_under}
 use Rattle.prefix_tree.specs.Inside.Around.{NodeModel, own_entry, around, KeysUnder, table_of, IsUnder, node_view}
 use Rattle.prefix_tree.specs.Next.{first_entry, entry_past}
 use Rattle.prefix_tree.proofs.Begins.{begins_length, side_begins}
-use Rattle.prefix_tree.proofs.NodePlaces.{never_so, place_goes}
+use Rattle.prefix_tree.proofs.NodePlaces.{place_goes}
 use Rattle.prefix_tree.proofs.VisitLaws.{one_side}
 use Rattle.prefix_tree.proofs.NodeLaws.{at_is, table_is, firm_node, zero_keys, one_keys}
 use Rattle.prefix_tree.proofs.OrderLaws.{AllUnder, entries_under, entries_around}
@@ -94,7 +96,7 @@ one_ahead (true ∷ p) (false ∷ q) on off = absurd (false≢true on)
 one_ahead (false ∷ p) (true ∷ q) on off = absurd (false≢true on)
 
 not_both : (p q : Path) → begins (p ++ true ∷ []) q ≡ true → begins (p ++ false ∷ []) q ≡ false
-not_both p q on = never_so _ (λ zero. false≢true (sym (one_side p q zero) ∙ on))
+not_both p q on = never _ (λ zero. false≢true (sym (one_side p q zero) ∙ on))
 
 module _ {V : Type 0} where
   abbrev no_entry : Option (Path × V)
@@ -143,13 +145,9 @@ module _ {V : Type 0} where
         ap (entry_past q) (entries_around p v l r left right) ∙ past_append q (own_entry p v) (map.entries l ++ map.entries r)
         ∙ ap (λ o. option_or o (entry_past q (map.entries l ++ map.entries r))) (own_past p q v on) ∙ past_append q (map.entries l) (map.entries r)
 
-nil_of : {X : Type 0} (es : List X) → length es ≡ 0 → es ≡ []
-nil_of [] e = refl
-nil_of (x ∷ es) e = absurd (omega (arith, e))
-
 module _ {V A : Type 0} where
   pub none_entries : (o : Option (Box (NodeModel V) A)) → o ≡ None → map.entries (table_of o) ≡ []
-  none_entries o is = nil_of _ (sym (len-entries (table_of o)) ∙ ap (λ z. map.len (table_of z)) is ∙ len-empty path_cmp V)
+  none_entries o is = nil_of_length _ (sym (len-entries (table_of o)) ∙ ap (λ z. map.len (table_of z)) is ∙ len-empty path_cmp V)
 
   pub none_first : (o : Option (Box (NodeModel V) A)) → o ≡ None → None ≡ first_entry (map.entries (table_of o))
   none_first o is = sym (ap first_entry (none_entries o is))
@@ -158,7 +156,8 @@ module _ {V A : Type 0} where
   none_past q o is = sym (ap (entry_past q) (none_entries o is))
 
   module _ (n : Inside V A) (d : NodeModel V) (seen : node_view n.at n.value n.zero n.one ≡ d) (sound : IsTrue d.sound) where
-    first_node : first_entry (map.entries d.table) ≡ option_or (first_entry (own_entry n.at n.value)) (option_or (first_entry (map.entries (table_of n.zero))) (first_entry (map.entries (table_of n.one))))
+    first_node : first_entry (map.entries d.table) ≡ option_or (first_entry (own_entry n.at n.value))
+        (option_or (first_entry (map.entries (table_of n.zero))) (first_entry (map.entries (table_of n.one))))
     first_node = ap (λ m. first_entry (map.entries m)) (sym (table_is n d seen)) ∙ first_around n.at n.value _ _ (zero_keys n d seen sound) (one_keys n d seen sound)
 
     pub first_own : (x : V) → n.value ≡ Some x → Some (n.at, x) ≡ first_entry (map.entries d.table)
@@ -170,11 +169,13 @@ module _ {V A : Type 0} where
     pub first_zero : (e : Path × V) → n.value ≡ None → Some e ≡ first_entry (map.entries (table_of n.zero)) → Some e ≡ first_entry (map.entries d.table)
     first_zero e is found = sym (first_bare is ∙ ap (λ o. option_or o (first_entry (map.entries (table_of n.one)))) (sym found))
 
-    pub first_one : (o : Option (Path × V)) → n.value ≡ None → None ≡ first_entry (map.entries (table_of n.zero)) → o ≡ first_entry (map.entries (table_of n.one)) → o ≡ first_entry (map.entries d.table)
+    pub first_one : (o : Option (Path × V)) → n.value ≡ None → None ≡ first_entry (map.entries (table_of n.zero)) →
+        o ≡ first_entry (map.entries (table_of n.one)) → o ≡ first_entry (map.entries d.table)
     first_one o is none found = found ∙ sym (first_bare is ∙ ap (λ o. option_or o (first_entry (map.entries (table_of n.one)))) (sym none))
 
     past_node : (q : Path) → begins d.at q ≡ true → entry_past q (map.entries d.table) ≡ option_or (entry_past q (map.entries (table_of n.zero))) (entry_past q (map.entries (table_of n.one)))
-    past_node q on = ap (λ m. entry_past q (map.entries m)) (sym (table_is n d seen)) ∙ past_around n.at n.value _ _ (zero_keys n d seen sound) (one_keys n d seen sound) q (ap (λ p. begins p q) (at_is n d seen) ∙ on)
+    past_node q on = ap (λ m. entry_past q (map.entries m)) (sym (table_is n d seen)) ∙
+        past_around n.at n.value _ _ (zero_keys n d seen sound) (one_keys n d seen sound) q (ap (λ p. begins p q) (at_is n d seen) ∙ on)
 
     pub past_zero : (q : Path) → begins d.at q ≡ true → (e : Path × V) → Some e ≡ entry_past q (map.entries (table_of n.zero)) → Some e ≡ entry_past q (map.entries d.table)
     past_zero q on e found = sym (past_node q on ∙ ap (λ o. option_or o (entry_past q (map.entries (table_of n.one)))) (sym found))
@@ -188,7 +189,8 @@ module _ {V A : Type 0} where
         found ∙ sym (past_node q (ap (λ p. begins p q) (sym (at_is n d seen)) ∙ side_begins n.at q true on) ∙ ap (λ o. option_or o (entry_past q (map.entries (table_of n.one)))) zero)
 
     -- for any other, all that goes on with 1 is still to come
-    pub past_then_one : (q : Path) → begins d.at q ≡ true → begins (n.at ++ true ∷ []) q ≡ false → (o : Option (Path × V)) → None ≡ entry_past q (map.entries (table_of n.zero)) → o ≡ first_entry (map.entries (table_of n.one)) → o ≡ entry_past q (map.entries d.table)
+    pub past_then_one : (q : Path) → begins d.at q ≡ true → begins (n.at ++ true ∷ []) q ≡ false → (o : Option (Path × V)) →
+        None ≡ entry_past q (map.entries (table_of n.zero)) → o ≡ first_entry (map.entries (table_of n.one)) → o ≡ entry_past q (map.entries d.table)
     past_then_one q on off o none found =
         let one : entry_past q (map.entries (table_of n.one)) ≡ first_entry (map.entries (table_of n.one)) =
         past_beside (n.at ++ true ∷ []) q (table_of n.one) (one_keys n d seen sound) off
@@ -203,10 +205,6 @@ module _ {V : Type 0} where
       bare : (es : List (Path × V)) → any_under p es ≡ true → no_entry ≡ first_entry es → ⊥
       bare [] goes none = false≢true goes
       bare (e ∷ es) goes none = false≢true (ap is_some none)
-
-pub if_none : {R P Q : Type 0} → (r : Option R) → (P → Q) → IfNone r P → IfNone r Q
-if_none None f h = f h
-if_none (Some x) f h = tt
 
 module _ {V A : Type 0} (o : Option (Box (NodeModel V) A)) (b : Box (NodeModel V) A) (w : NodeModel V) (is : o ≡ Some b) (at : w ≡ b.value) where
   -- a node below a link has a first entry

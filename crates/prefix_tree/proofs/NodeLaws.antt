@@ -1,6 +1,5 @@
 -- A node seen as a map, and its parts.
 use Rattle.std.proofs.Common.{◌≡◌, ◌<◌, ◌≤◌, inl, inr, arith, length, Bool, true, false, cond, [], ◌∷◌, ◌++◌, Option, Some, None, refl, sym, ap, subst, ◌∙◌}
-use mathlib.Core.Bool.{false≢true}
 use Rattle.std.specs.Prelude.{IsTrue, Result, Ok, Err, OnOk, IfErr, IsSome}
 use Rattle.std.proofs.lemmas.Bool.{cases_eq}
 use Rattle.std.specs.Box.{with_value}
@@ -16,7 +15,8 @@ use Rattle.prefix_tree.specs.Visits.{is_place}
 use Rattle.prefix_tree.specs.Inside.Around.{NodeModel, around, KeysUnder, table_of, IsLoose, IsFirm, IsUnder, node_view, leads_to}
 use Rattle.prefix_tree.proofs.NodePlaces.{fits_when, place_inserted}
 use Rattle.prefix_tree.proofs.Begins.{longer_side, begins_whole, begins_length}
-use Rattle.prefix_tree.proofs.AroundLaws.{under_wider, under_empty, under_off, get_here, get_zero, get_one, keys_around, keys_insert, keys_remove, insert_here, insert_zero, insert_one, remove_here, remove_zero, remove_one, around_empty}
+use Rattle.prefix_tree.proofs.AroundLaws.{under_wider, under_empty, under_off, get_here, get_zero, get_one, keys_insert, keys_remove, insert_here}
+use Rattle.prefix_tree.proofs.AroundLaws.{insert_zero, insert_one, remove_here, remove_zero, remove_one, around_empty}
 
 module _ {V A : Type 0} where
   pub keys_of : (p : Path) (o : Option (Box (NodeModel V) A)) → IsUnder p o → KeysUnder p (table_of o)
@@ -77,9 +77,6 @@ module _ {V A : Type 0} (n : Inside V A) (d : NodeModel V) (seen : node_view n.a
   pub one_under : IsUnder (d.at ++ true ∷ []) n.one
   one_under = subst (λ p. IsUnder (p ++ true ∷ []) n.one) the_at fits.1
 
-  pub keys_is : KeysUnder d.at d.table
-  keys_is = subst (λ p. KeysUnder p d.table) the_at (subst (λ m. KeysUnder n.at m) the_table (keys_around n.at n.value _ _ zero_keys one_keys))
-
   -- what an edit at the node, or on a side, makes of its map
   pub write_here : (q : Path) (x : V) → q ≡ d.at → around n.at (Some x) (table_of n.zero) (table_of n.one) ≡ map.insert d.table q x
   write_here q x e = insert_here n.at n.value _ _ zero_keys one_keys x ∙ (λ i. map.insert (the_table i) ((the_at ∙ sym e) i) x)
@@ -88,22 +85,27 @@ module _ {V A : Type 0} (n : Inside V A) (d : NodeModel V) (seen : node_view n.a
   take_here q e = remove_here n.at n.value _ _ zero_keys one_keys ∙ (λ i. map.remove (the_table i) ((the_at ∙ sym e) i))
 
   pub into_zero : (m : PathMap V) (q : Path) (x : V) → IsTrue (begins (d.at ++ false ∷ []) q) → m ≡ map.insert (table_of n.zero) q x → around n.at n.value m (table_of n.one) ≡ map.insert d.table q x
-  into_zero m q x e new = ap (λ z. around n.at n.value z (table_of n.one)) new ∙ insert_zero n.at n.value _ _ zero_keys one_keys q x (ap (λ p. begins (p ++ false ∷ []) q) the_at ∙ e) ∙ ap (λ z. map.insert z q x) the_table
+  into_zero m q x e new = ap (λ z. around n.at n.value z (table_of n.one)) new ∙
+      insert_zero n.at n.value _ _ zero_keys one_keys q x (ap (λ p. begins (p ++ false ∷ []) q) the_at ∙ e) ∙ ap (λ z. map.insert z q x) the_table
 
   pub into_one : (m : PathMap V) (q : Path) (x : V) → IsTrue (begins (d.at ++ true ∷ []) q) → m ≡ map.insert (table_of n.one) q x → around n.at n.value (table_of n.zero) m ≡ map.insert d.table q x
-  into_one m q x e new = ap (λ z. around n.at n.value (table_of n.zero) z) new ∙ insert_one n.at n.value _ _ zero_keys one_keys q x (ap (λ p. begins (p ++ true ∷ []) q) the_at ∙ e) ∙ ap (λ z. map.insert z q x) the_table
+  into_one m q x e new = ap (λ z. around n.at n.value (table_of n.zero) z) new ∙
+      insert_one n.at n.value _ _ zero_keys one_keys q x (ap (λ p. begins (p ++ true ∷ []) q) the_at ∙ e) ∙ ap (λ z. map.insert z q x) the_table
 
   pub out_of_zero : (m : PathMap V) (q : Path) → IsTrue (begins (d.at ++ false ∷ []) q) → m ≡ map.remove (table_of n.zero) q → around n.at n.value m (table_of n.one) ≡ map.remove d.table q
-  out_of_zero m q e new = ap (λ z. around n.at n.value z (table_of n.one)) new ∙ remove_zero n.at n.value _ _ zero_keys one_keys q (ap (λ p. begins (p ++ false ∷ []) q) the_at ∙ e) ∙ ap (λ z. map.remove z q) the_table
+  out_of_zero m q e new = ap (λ z. around n.at n.value z (table_of n.one)) new ∙
+      remove_zero n.at n.value _ _ zero_keys one_keys q (ap (λ p. begins (p ++ false ∷ []) q) the_at ∙ e) ∙ ap (λ z. map.remove z q) the_table
 
   pub out_of_one : (m : PathMap V) (q : Path) → IsTrue (begins (d.at ++ true ∷ []) q) → m ≡ map.remove (table_of n.one) q → around n.at n.value (table_of n.zero) m ≡ map.remove d.table q
-  out_of_one m q e new = ap (λ z. around n.at n.value (table_of n.zero) z) new ∙ remove_one n.at n.value _ _ zero_keys one_keys q (ap (λ p. begins (p ++ true ∷ []) q) the_at ∙ e) ∙ ap (λ z. map.remove z q) the_table
+  out_of_one m q e new = ap (λ z. around n.at n.value (table_of n.zero) z) new ∙
+      remove_one n.at n.value _ _ zero_keys one_keys q (ap (λ p. begins (p ++ true ∷ []) q) the_at ∙ e) ∙ ap (λ z. map.remove z q) the_table
 
 pub one_here : {V : Type 0} (p : Path) (x : V) → around p (Some x) map.empty map.empty ≡ map.insert map.empty p x
 one_here {V} p x = insert_here p None map.empty map.empty (under_empty V _) (under_empty V _) x ∙ ap (λ m. map.insert m p x) (around_empty V p)
 
 -- one step down towards a path that goes on with the bit
-module _ {V A : Type 0} (d : NodeModel V) (b : Bool) (o : Option (Box (NodeModel V) A)) (q : Path) (side : IsTrue (begins (d.at ++ b ∷ []) q)) (under : IsUnder (d.at ++ b ∷ []) o) (table : (z : Path) → IsTrue (begins (d.at ++ b ∷ []) z) → map.get d.table z ≡ map.get (table_of o) z) where
+module _ {V A : Type 0} (d : NodeModel V) (b : Bool) (o : Option (Box (NodeModel V) A)) (q : Path) (side : IsTrue (begins (d.at ++ b ∷ []) q))
+    (under : IsUnder (d.at ++ b ∷ []) o) (table : (z : Path) → IsTrue (begins (d.at ++ b ∷ []) z) → map.get d.table z ≡ map.get (table_of o) z) where
   pub none_there : o ≡ None → map.get d.table q ≡ None
   none_there is = table q side ∙ none_after o q is
 
@@ -164,7 +166,8 @@ firm_put p d n k x firm begun at put sound = record {
   place = ap (is_place n.table) at ∙ place_inserted d.table n.table k x d.at put firm.place;
 }
 
-pub firm_after : {V E T : Type 0} → (p : Path) (r : Result T E) (d n : NodeModel V) (k : Path) (x : V) (back : E → Type 0) → IsFirm p d → IsTrue (begins d.at k) → n.at ≡ d.at → OnOk r (n.table ≡ map.insert d.table k x) → IfErr r (λ b. back b × (n ≡ d)) → IsTrue n.sound → IsFirm p n
+pub firm_after : {V E T : Type 0} → (p : Path) (r : Result T E) (d n : NodeModel V) (k : Path) (x : V) (back : E → Type 0) → IsFirm p d →
+    IsTrue (begins d.at k) → n.at ≡ d.at → OnOk r (n.table ≡ map.insert d.table k x) → IfErr r (λ b. back b × (n ≡ d)) → IsTrue n.sound → IsFirm p n
 firm_after p (Ok t) d n k x back firm begun at ok err sound = firm_put p d n k x firm begun at ok sound
 firm_after p (Err e) d n k x back firm begun at ok err sound = subst (λ z. IsFirm p z) (sym err.1) firm
 
@@ -178,12 +181,6 @@ loose_after p d n k firm begun at gone sound = record {
 
 pub is_there : {X : Type 0} {a b : Option X} → a ≡ b → IsSome b → IsSome a
 is_there e some = subst (λ o. IsSome o) (sym e) some
-
-pub not_there : {X : Type 0} {o : Option X} → o ≡ None → IsSome o → ⊥
-not_there {X = X} e some = apart (subst (λ (o : Option X). IsSome o) e some)
-  where
-    apart : IsSome {T = X} None → ⊥
-    apart h = false≢true h
 
 same_unless : {V : Type 0} (b : Bool) (x y : Option V) → (b ≡ true → y ≡ None) → cond b None y ≡ y
 same_unless true x y h = sym (h refl)

@@ -7,6 +7,7 @@ use Rattle.std.specs.Ordering.{eq_by_cmp}
 use Rattle.std.specs.FinMap as map
 use Rattle.std.specs.FinMap.{find, get-entries, get-empty, get-insert}
 use Rattle.std.specs.declared.boxed.Box.{Box}
+use Rattle.base.proofs.Bools.{never, and_is_true, first_true, second_true, same_truth}
 use Rattle.identity.specs.Path.{Path, path_cmp, begins}
 use Rattle.identity.specs.Inside.PathLaws.{paths_total, tie_exact, tied}
 use Rattle.prefix_tree.specs.Table.{PathMap}
@@ -15,18 +16,6 @@ use Rattle.prefix_tree.specs.Inside.Around.{NodeModel, around, KeysUnder, all_un
 use Rattle.prefix_tree.proofs.Begins.{begins_self, begins_trans, begins_push, side_begins}
 use Rattle.prefix_tree.proofs.AroundLaws.{get_here, get_zero, get_one}
 use Rattle.prefix_tree.proofs.OrderLaws.{AllUnder, entries_under}
-
-pub and_true : (a b : Bool) → a ≡ true → b ≡ true → (a && b) ≡ true
-and_true true b p q = q
-and_true false b p q = p
-
-pub and_left : (a b : Bool) → (a && b) ≡ true → a ≡ true
-and_left true b p = refl
-and_left false b p = p
-
-pub and_right : (a b : Bool) → (a && b) ≡ true → b ≡ true
-and_right true b p = p
-and_right false b p = absurd (false≢true p)
 
 or_left : (a b : Bool) → a ≡ true → (a || b) ≡ true
 or_left true b p = refl
@@ -40,21 +29,13 @@ pub or_case : {P : Type 0} (a b : Bool) → (a ≡ true → P) → (b ≡ true �
 or_case true b f g h = f refl
 or_case false b f g h = g h
 
-pub never_so : (b : Bool) → (b ≡ true → ⊥) → b ≡ false
-never_so true h = absurd (h refl)
-never_so false h = refl
-
-both_ways : (a b : Bool) → (a ≡ true → b ≡ true) → (b ≡ true → a ≡ true) → a ≡ b
-both_ways true b f g = sym (f refl)
-both_ways false true f g = g refl
-both_ways false false f g = refl
-
 module _ {V : Type 0} where
   any_find : (p q : Path) (es : List (Path × V)) → begins p q ≡ true → is_some (find path_cmp q es) ≡ true → any_under p es ≡ true
   any_find p q [] on there = there
   any_find p q (e ∷ es) on there = at (eq_by_cmp path_cmp q e.0) refl there (any_find p q es on)
     where
-      at : (t : Bool) → eq_by_cmp path_cmp q e.0 ≡ t → is_some (cond t (Some e.1) (find path_cmp q es)) ≡ true → (is_some (find path_cmp q es) ≡ true → any_under p es ≡ true) → (begins p e.0 || any_under p es) ≡ true
+      at : (t : Bool) → eq_by_cmp path_cmp q e.0 ≡ t → is_some (cond t (Some e.1) (find path_cmp q es)) ≡ true →
+          (is_some (find path_cmp q es) ≡ true → any_under p es ≡ true) → (begins p e.0 || any_under p es) ≡ true
       at true is h rest = or_left _ _ (subst (λ z. begins p z ≡ true) (tie_exact q e.0 is) on)
       at false is h rest = or_right _ _ (rest h)
 
@@ -66,7 +47,9 @@ module _ {V : Type 0} where
       either true x o k = refl
       either false x o k = k
 
-      at : (t : Bool) → begins p e.0 ≡ t → (t || any_under p es) ≡ true → (any_under p es ≡ true → (q : Path) × (begins p q ≡ true) × (is_some (find path_cmp q es) ≡ true)) → (q : Path) × (begins p q ≡ true) × (is_some (find path_cmp q (e ∷ es)) ≡ true)
+      at : (t : Bool) → begins p e.0 ≡ t → (t || any_under p es) ≡ true →
+          (any_under p es ≡ true → (q : Path) × (begins p q ≡ true) × (is_some (find path_cmp q es) ≡ true)) → (q : Path) × (begins p q ≡ true) ×
+          (is_some (find path_cmp q (e ∷ es)) ≡ true)
       at true is k rest = (e.0, is, ap (λ b. is_some (cond b (Some e.1) (find path_cmp e.0 es))) (tied e.0))
       at false is k rest = let f = rest k in (f.0, f.1, either (eq_by_cmp path_cmp f.0 e.0) e.1 (find path_cmp f.0 es) f.2)
 
@@ -82,13 +65,13 @@ module _ {V : Type 0} where
   goes_more m n p f h = let k = key_of m p h in goes_there n p k.0 k.1 (f k.0 k.1 k.2)
 
   pub goes_same : (m n : PathMap V) (p : Path) → ((q : Path) → begins p q ≡ true → map.get m q ≡ map.get n q) → goes_on m p ≡ goes_on n p
-  goes_same m n p f = both_ways _ _ (goes_more m n p (λ q on h. ap is_some (sym (f q on)) ∙ h)) (goes_more n m p (λ q on h. ap is_some (f q on) ∙ h))
+  goes_same m n p f = same_truth _ _ (goes_more m n p (λ q on h. ap is_some (sym (f q on)) ∙ h)) (goes_more n m p (λ q on h. ap is_some (f q on) ∙ h))
 
   pub goes_wider : (m : PathMap V) (p r : Path) → begins p r ≡ true → goes_on m r ≡ true → goes_on m p ≡ true
   goes_wider m p r on h = let k = key_of m r h in goes_there m p k.0 (begins_trans p r k.0 on k.1) k.2
 
   pub goes_none : (m : PathMap V) (p : Path) → ((q : Path) → begins p q ≡ true → map.get m q ≡ None) → goes_on m p ≡ false
-  goes_none m p f = never_so _ (λ h. let k = key_of m p h in false≢true (ap is_some (sym (f k.0 k.1)) ∙ k.2))
+  goes_none m p f = never _ (λ h. let k = key_of m p h in false≢true (ap is_some (sym (f k.0 k.1)) ∙ k.2))
 
   pub place_same : (m n : PathMap V) (p : Path) → ((q : Path) → begins p q ≡ true → map.get m q ≡ map.get n q) → is_place m p ≡ is_place n p
   unfolding is_place
@@ -101,10 +84,14 @@ module _ {V : Type 0} where
   -- where keys are added, a place stays one
   pub place_grows : (m n : PathMap V) (p : Path) → ((q : Path) → is_some (map.get m q) ≡ true → is_some (map.get n q) ≡ true) → is_place m p ≡ true → is_place n p ≡ true
   unfolding is_place
-  place_grows m n p f h = or_case _ _ (λ v. or_left _ _ (f p v)) (λ k. or_right _ _ (and_true _ _ (goes_more m n _ (λ q on. f q) (and_left _ _ k)) (goes_more m n _ (λ q on. f q) (and_right _ _ k)))) h
+  place_grows m n p f h =
+      or_case _ _ (λ v. or_left _ _ (f p v))
+      (λ k. or_right _ _ (and_is_true _ _ (goes_more m n _ (λ q on. f q) (first_true _ _ k)) (goes_more m n _ (λ q on. f q) (second_true _ _ k)))) h
 
   pub place_inserted : (m n : PathMap V) (k : Path) (x : V) (p : Path) → n ≡ map.insert m k x → is_place m p ≡ true → is_place n p ≡ true
-  place_inserted m n k x p is h = place_grows m n p (λ q there. ap (λ z. is_some (map.get z q)) is ∙ ap is_some (get-insert paths_total m k x q) ∙ either (eq_by_cmp path_cmp q k) (map.get m q) there) h
+  place_inserted m n k x p is h =
+      place_grows m n p (λ q there. ap (λ z. is_some (map.get z q)) is ∙ ap is_some (get-insert paths_total m k x q) ∙
+      either (eq_by_cmp path_cmp q k) (map.get m q) there) h
     where
       either : (b : Bool) (o : Option V) → is_some o ≡ true → is_some (cond b (Some x) o) ≡ true
       either true o k = refl
@@ -112,7 +99,7 @@ module _ {V : Type 0} where
 
   pub place_goes : (m : PathMap V) (p : Path) → is_place m p ≡ true → goes_on m p ≡ true
   unfolding is_place
-  place_goes m p h = or_case _ _ (λ v. goes_there m p p (begins_self p) v) (λ k. goes_wider m p (p ++ false ∷ []) (begins_push p false) (and_left _ _ k)) h
+  place_goes m p h = or_case _ _ (λ v. goes_there m p p (begins_self p) v) (λ k. goes_wider m p (p ++ false ∷ []) (begins_push p false) (first_true _ _ k)) h
 
   pub place_of : (m : PathMap V) (p : Path) → is_some (map.get m p) ≡ true → is_place m p ≡ true
   unfolding is_place
@@ -121,7 +108,8 @@ module _ {V : Type 0} where
   pub place_single : (m : PathMap V) (k : Path) (x : V) → is_place (map.insert m k x) k ≡ true
   place_single m k x = place_of (map.insert m k x) k (ap is_some (get-insert paths_total m k x k) ∙ ap (λ b. is_some (cond b (Some x) (map.get m k))) (tied k))
 
-  pub place_around : (p : Path) (v : Option V) (l r : PathMap V) → KeysUnder (p ++ false ∷ []) l → KeysUnder (p ++ true ∷ []) r → is_place (around p v l r) p ≡ (is_some v || goes_on l (p ++ false ∷ []) && goes_on r (p ++ true ∷ []))
+  pub place_around : (p : Path) (v : Option V) (l r : PathMap V) → KeysUnder (p ++ false ∷ []) l → KeysUnder (p ++ true ∷ []) r →
+      is_place (around p v l r) p ≡ (is_some v || goes_on l (p ++ false ∷ []) && goes_on r (p ++ true ∷ []))
   unfolding is_place
   place_around p v l r left right =
       let here : is_some (map.get (around p v l r) p) ≡ is_some v = ap is_some (get_here p v l r left right) in
@@ -132,14 +120,14 @@ module _ {V : Type 0} where
   -- the keys of a map as a test
   all_true : (p : Path) (es : List (Path × V)) → AllUnder p es → all_under p es ≡ true
   all_true p [] h = refl
-  all_true p (e ∷ es) h = and_true _ _ h.0 (all_true p es h.1)
+  all_true p (e ∷ es) h = and_is_true _ _ h.0 (all_true p es h.1)
 
   find_off : (p q : Path) (es : List (Path × V)) → all_under p es ≡ true → begins p q ≡ false → find path_cmp q es ≡ None
   find_off p q [] h off = refl
-  find_off p q (e ∷ es) h off = at (eq_by_cmp path_cmp q e.0) refl (find_off p q es (and_right _ _ h) off)
+  find_off p q (e ∷ es) h off = at (eq_by_cmp path_cmp q e.0) refl (find_off p q es (second_true _ _ h) off)
     where
       at : (t : Bool) → eq_by_cmp path_cmp q e.0 ≡ t → find path_cmp q es ≡ None → cond t (Some e.1) (find path_cmp q es) ≡ None
-      at true is rest = absurd (false≢true (sym off ∙ subst (λ z. begins p z ≡ true) (sym (tie_exact q e.0 is)) (and_left _ _ h)))
+      at true is rest = absurd (false≢true (sym off ∙ subst (λ z. begins p z ≡ true) (sym (tie_exact q e.0 is)) (first_true _ _ h)))
       at false is rest = rest
 
   keys_all : (p : Path) (m : PathMap V) → KeysUnder p m → all_under p (map.entries m) ≡ true
@@ -153,24 +141,24 @@ module _ {V A : Type 0} where
   pub under_is : (p : Path) (o : Option (Box (NodeModel V) A)) → is_under p o ≡ true → IsUnder p o
   under_is p None h = tt
   under_is p (Some b) h =
-      let prefix = and_left _ _ h in
-      let back = and_right _ _ h in record {
-        loose = record { extends = and_left _ _ prefix; keys = all_keys b.value.at b.value.table (and_right _ _ prefix); sound = and_right _ _ back };
-        place = and_left _ _ back;
+      let prefix = first_true _ _ h in
+      let back = second_true _ _ h in record {
+        loose = record { extends = first_true _ _ prefix; keys = all_keys b.value.at b.value.table (second_true _ _ prefix); sound = second_true _ _ back };
+        place = first_true _ _ back;
       }
 
   pub is_under_so : (p : Path) (o : Option (Box (NodeModel V) A)) → IsUnder p o → is_under p o ≡ true
   is_under_so p None h = refl
-  is_under_so p (Some b) h = and_true _ _ (and_true _ _ h.loose.extends (keys_all b.value.at b.value.table h.loose.keys)) (and_true _ _ h.place h.loose.sound)
+  is_under_so p (Some b) h = and_is_true _ _ (and_is_true _ _ h.loose.extends (keys_all b.value.at b.value.table h.loose.keys)) (and_is_true _ _ h.place h.loose.sound)
 
   -- what a sound node's sides are
   pub fits_when : (p : Path) (v : Option V) (l r : Option (Box (NodeModel V) A)) (d : NodeModel V) → node_view p v l r ≡ d → IsTrue d.sound → IsUnder (p ++ false ∷ []) l × IsUnder (p ++ true ∷ []) r
   fits_when p v l r d seen sound =
       let h : (node_view p v l r).sound ≡ true = ap (λ (x : NodeModel V). x.sound) seen ∙ sound in
-      (under_is _ l (and_left _ _ h), under_is _ r (and_right _ _ h))
+      (under_is _ l (first_true _ _ h), under_is _ r (second_true _ _ h))
 
   pub sound_when : (p : Path) (l r : Option (Box (NodeModel V) A)) → IsUnder (p ++ false ∷ []) l → IsUnder (p ++ true ∷ []) r → (is_under (p ++ false ∷ []) l && is_under (p ++ true ∷ []) r) ≡ true
-  sound_when p l r a b = and_true _ _ (is_under_so _ l a) (is_under_so _ r b)
+  sound_when p l r a b = and_is_true _ _ (is_under_so _ l a) (is_under_so _ r b)
 
   -- a link leads to a node where keys go on
   pub goes_link : (p : Path) (o : Option (Box (NodeModel V) A)) → IsUnder p o → goes_on (table_of o) p ≡ is_some o

@@ -15,7 +15,8 @@ use Rattle.prefix_tree.proofs.Begins.{begins_length}
 pub fits_cut : (w n b : ℕ) → w ≤ n → b < 2 ^ n → b / 2 ^ (n - w) < 2 ^ w
 fits_cut w n b le fits = let e : n ≡ w + (n - w) = omega arith in shr_below b w (n - w) (subst (λ m. b < 2 ^ m) e fits)
 
-pub begins_numbers : (p q : Path) (a b : ℕ) → a < 2 ^ length p → b < 2 ^ length q → num (length p) a ≡ p → num (length q) b ≡ q → length p ≤ length q → nat_eq (b / 2 ^ (length q - length p)) a ≡ begins p q
+pub begins_numbers : (p q : Path) (a b : ℕ) → a < 2 ^ length p → b < 2 ^ length q → num (length p) a ≡ p → num (length q) b ≡ q →
+    length p ≤ length q → nat_eq (b / 2 ^ (length q - length p)) a ≡ begins p q
 begins_numbers p q a b small fits pa qb le =
     let x = b / 2 ^ (length q - length p) in
     let prefix : take (length p) q ≡ num (length p) x = ap (take (length p)) (sym qb) ∙ take-num (length p) (length q) b le in
@@ -44,7 +45,9 @@ parts : (w n b : ℕ) → w < n → num n b ≡ (num w (b / 2 ^ (n - w - 1) / 2 
 parts w n b lt =
     let e : w + 1 + (n - w - 1) ≡ n = omega arith in
     subst (λ m. num m b ≡ (num w (b / 2 ^ (n - w - 1) / 2 ^ 1) ++ nat_eq (b / 2 ^ (n - w - 1) % 2) 1 ∷ []) ++ num (n - w - 1) b) e
-    (num-append (w + 1) (n - w - 1) b ∙ ap (λ (l : Path). l ++ num (n - w - 1) b) (num-append w 1 (b / 2 ^ (n - w - 1)) ∙ ap (λ (l : Path). num w (b / 2 ^ (n - w - 1) / 2 ^ 1) ++ l) (num_one (b / 2 ^ (n - w - 1)))))
+    (num-append (w + 1) (n - w - 1) b ∙
+    ap (λ (l : Path). l ++ num (n - w - 1) b)
+    (num-append w 1 (b / 2 ^ (n - w - 1)) ∙ ap (λ (l : Path). num w (b / 2 ^ (n - w - 1) / 2 ^ 1) ++ l) (num_one (b / 2 ^ (n - w - 1)))))
 
 same_prefix : (p l r : Path) (c : Bool) → length l ≡ length p → begins p ((l ++ c ∷ []) ++ r) ≡ true → p ≡ l
 same_prefix [] [] r c e b = refl
@@ -105,7 +108,8 @@ cut_num : (w n b : ℕ) → w ≤ n → num n b ≡ num w (b / 2 ^ (n - w)) ++ n
 cut_num w n b le = let e : w + (n - w) ≡ n = omega arith in subst (λ m. num m b ≡ num w (b / 2 ^ (n - w)) ++ num (n - w) b) e (num-append w (n - w) b)
 
 -- only the first bits of the longer one matter
-pub common_cut : (p q : Path) (a b w : ℕ) → num (length p) a ≡ p → num (length q) b ≡ q → w ≤ length p → w ≤ length q → (length q ≤ w) ⊎ (length p ≤ w) → common p q ≡ common (num w (a / 2 ^ (length p - w))) (num w (b / 2 ^ (length q - w)))
+pub common_cut : (p q : Path) (a b w : ℕ) → num (length p) a ≡ p → num (length q) b ≡ q → w ≤ length p → w ≤ length q → (length q ≤ w) ⊎
+    (length p ≤ w) → common p q ≡ common (num w (a / 2 ^ (length p - w))) (num w (b / 2 ^ (length q - w)))
 common_cut p q a b w pa qb lp lq one =
     let x = num w (a / 2 ^ (length p - w)) in
     let y = num w (b / 2 ^ (length q - w)) in
@@ -114,8 +118,10 @@ common_cut p q a b w pa qb lp lq one =
     let lx : length x ≡ w = length-num w _ in
     let ly : length y ≡ w = length-num w _ in
     elim one [
-      | inl short ↦ ap (λ z. common z q) sp ∙ common_cut_first x (num (length p - w) a) q (omega (arith, lx, short)) ∙ common_turned x q ∙ ap (λ z. common z x) sq ∙ common_cut_first y (num (length q - w) b) x (omega (arith, lx, ly)) ∙ common_turned y x
-      | inr short ↦ common_turned p q ∙ ap (λ z. common z p) sq ∙ common_cut_first y (num (length q - w) b) p (omega (arith, ly, short)) ∙ common_turned y p ∙ ap (λ z. common z y) sp ∙ common_cut_first x (num (length p - w) a) y (omega (arith, lx, ly))
+      | inl short ↦ ap (λ z. common z q) sp ∙ common_cut_first x (num (length p - w) a) q (omega (arith, lx, short)) ∙ common_turned x q ∙
+          ap (λ z. common z x) sq ∙ common_cut_first y (num (length q - w) b) x (omega (arith, lx, ly)) ∙ common_turned y x
+      | inr short ↦ common_turned p q ∙ ap (λ z. common z p) sq ∙ common_cut_first y (num (length q - w) b) p (omega (arith, ly, short)) ∙
+          common_turned y p ∙ ap (λ z. common z y) sp ∙ common_cut_first x (num (length p - w) a) y (omega (arith, lx, ly))
     ]
 
 last_bit : (w a : ℕ) → 0 < w → num w a ≡ num (w - 1) (a / 2) ++ nat_eq (a % 2) 1 ∷ []

@@ -2,19 +2,13 @@
 use Rattle.std.proofs.Common.{◌≡◌, ℕ, zero, suc, ◌+◌, ◌-◌, ◌*◌, ◌^◌, ◌<◌, ◌≤◌, true, false, [], ◌∷◌, ◌++◌, length, replicate, refl, sym, ap, ◌∙◌, length-append, arith}
 use Rattle.std.specs.declared.cmp.Ordering.{Ordering}
 use Rattle.std.specs.declared.cmp.Ordering.TheVariants.{Less, Equal, Greater}
-use Rattle.std.specs.Ordering.{is_lt, nat_cmp, ordering_then}
+use Rattle.std.specs.Ordering.{nat_cmp, ordering_then}
 use Rattle.std.proofs.Math.ListN.{length-replicate}
-use mathlib.Core.Bool.{false≢true}
 use Rattle.std.proofs.lemmas.Bool.Decides.{nat_tests}
 use Rattle.identity.specs.Number.{number}
 use Rattle.identity.specs.Inside.NumberLaws.{number-lt}
 use Rattle.identity.specs.Path.{Path, path_cmp, id_path}
 use Rattle.identity.specs.Inside.PathLaws.{length-id_path, number-id_path}
-
-pub less_of : (o : Ordering) → is_lt o ≡ true → o ≡ Less
-less_of Less e = refl
-less_of Equal e = absurd (false≢true e)
-less_of Greater e = absurd (false≢true e)
 
 above : (k x y : ℕ) → x < 2 ^ k → nat_cmp (1 * 2 ^ k + y) (0 * 2 ^ k + x) ≡ Greater
 above k x y lt = grind (arith, nat_tests)
@@ -78,7 +72,8 @@ by_length (true ∷ p) (false ∷ q) m n e = refl
 by_length (false ∷ p) (true ∷ q) m n e = refl
 
 -- two prefixes by the numbers a and b that they are at the left of 48 bits
-pub in_order : (p q : Path) (a b : ℕ) → a < 2 ^ 48 → b < 2 ^ 48 → length p ≤ 48 → length q ≤ 48 → id_path a ≡ p ++ replicate (48 - length p) false → id_path b ≡ q ++ replicate (48 - length q) false → ordering_then (nat_cmp a b) (nat_cmp (length p) (length q)) ≡ path_cmp p q
+pub in_order : (p q : Path) (a b : ℕ) → a < 2 ^ 48 → b < 2 ^ 48 → length p ≤ 48 → length q ≤ 48 → id_path a ≡ p ++ replicate (48 - length p) false →
+    id_path b ≡ q ++ replicate (48 - length q) false → ordering_then (nat_cmp a b) (nat_cmp (length p) (length q)) ≡ path_cmp p q
 in_order p q a b low high p_fits q_fits left right =
     let numbers : path_cmp (id_path a) (id_path b) ≡ nat_cmp a b = by_number _ _ (length-id_path a ∙ sym (length-id_path b)) ∙ (λ i. nat_cmp (number-id_path a low i) (number-id_path b high i)) in
     ap (λ (o : Ordering). ordering_then o (nat_cmp (length p) (length q))) (sym numbers ∙ (λ i. path_cmp (left i) (right i)))

@@ -97,11 +97,13 @@ module _ {V : Type 0} where
   below_append x [] fs h k = k
   below_append x (e ∷ es) fs h k = both _ _ (first _ _ h) (below_append x es fs (second _ _ h) k)
 
-  sorted_sides : (p : Path) (es fs : List (Path × V)) → AllUnder (p ++ false ∷ []) es → AllUnder (p ++ true ∷ []) fs → T (is_sorted path_cmp es) → T (is_sorted path_cmp fs) → T (is_sorted path_cmp (es ++ fs))
+  sorted_sides : (p : Path) (es fs : List (Path × V)) → AllUnder (p ++ false ∷ []) es → AllUnder (p ++ true ∷ []) fs → T (is_sorted path_cmp es) →
+      T (is_sorted path_cmp fs) → T (is_sorted path_cmp (es ++ fs))
   sorted_sides p [] fs a b h k = k
   sorted_sides p (e ∷ es) fs a b h k = both _ _ (below_append e.0 es fs (first _ _ h) (zero_below p e.0 fs a.0 b)) (sorted_sides p es fs a.1 b (second _ _ h) k)
 
-  sorted_around : (p : Path) (v : Option V) (es fs : List (Path × V)) → AllUnder (p ++ false ∷ []) es → AllUnder (p ++ true ∷ []) fs → T (is_sorted path_cmp es) → T (is_sorted path_cmp fs) → T (is_sorted path_cmp (own_entry p v ++ (es ++ fs)))
+  sorted_around : (p : Path) (v : Option V) (es fs : List (Path × V)) → AllUnder (p ++ false ∷ []) es → AllUnder (p ++ true ∷ []) fs →
+      T (is_sorted path_cmp es) → T (is_sorted path_cmp fs) → T (is_sorted path_cmp (own_entry p v ++ (es ++ fs)))
   sorted_around p None es fs a b h k = sorted_sides p es fs a b h k
   sorted_around p (Some v) es fs a b h k = both _ _ (below_append p es fs (own_below p false es a) (own_below p true fs b)) (sorted_sides p es fs a b h k)
 

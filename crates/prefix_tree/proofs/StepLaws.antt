@@ -30,18 +30,14 @@ module _ {V A : Type 0} where
   visits_off None q off = refl
   visits_off (Some b) q off = ap (λ t. 1 + cond t (visits_beyond b.value.table b.value.at q) 0) off
 
-  pub visits_on : (o : Option (Box (NodeModel V) A)) (q : Path) (b : Box (NodeModel V) A) (w : NodeModel V) → o ≡ Some b → w ≡ b.value → leads_to o q ≡ true → link_visits o q ≡ 1 + visits_beyond w.table w.at q
+  pub visits_on : (o : Option (Box (NodeModel V) A)) (q : Path) (b : Box (NodeModel V) A) (w : NodeModel V) → o ≡ Some b → w ≡ b.value →
+      leads_to o q ≡ true → link_visits o q ≡ 1 + visits_beyond w.table w.at q
   visits_on o q b w is at on =
       ap (λ z. link_visits z q) is ∙ ap (λ t. 1 + cond t (visits_beyond b.value.table b.value.at q) 0) (ap (λ z. leads_to z q) (sym is) ∙ on)
       ∙ ap (λ (z : NodeModel V). 1 + visits_beyond z.table z.at q) (sym at)
 
   pub some_one : (o : Option (Box (NodeModel V) A)) (b : Box (NodeModel V) A) → o ≡ Some b → one_if (is_some o) ≡ one_if true
   some_one o b is = ap (λ z. one_if (is_some z)) is
-
-  -- where a link leads on, it has a node
-  pub leads_some : (o : Option (Box (NodeModel V) A)) (q : Path) → leads_to o q ≡ true → is_some o ≡ true
-  leads_some None q on = on
-  leads_some (Some b) q on = refl
 
 module _ {V A : Type 0} (n : Inside V A) (d : NodeModel V) (seen : node_view n.at n.value n.zero n.one ≡ d) (sound : IsTrue d.sound) where
   pub visits_zero : (q : Path) → IsTrue (begins (d.at ++ false ∷ []) q) → visits_beyond d.table d.at q ≡ link_visits n.zero q
@@ -66,10 +62,12 @@ module _ {V A : Type 0} (n : Inside V A) (d : NodeModel V) (seen : node_view n.a
   sound_with_one o h = sound_when n.at n.zero o (fits n d seen sound).0 h
 
   pub entries_node : map.entries d.table ≡ own_entry d.at n.value ++ (map.entries (table_of n.zero) ++ map.entries (table_of n.one))
-  entries_node = ap map.entries (sym (table_is n d seen)) ∙ entries_around n.at n.value _ _ (zero_keys n d seen sound) (one_keys n d seen sound) ∙ ap (λ p. own_entry p n.value ++ (map.entries (table_of n.zero) ++ map.entries (table_of n.one))) (at_is n d seen)
+  entries_node = ap map.entries (sym (table_is n d seen)) ∙ entries_around n.at n.value _ _ (zero_keys n d seen sound) (one_keys n d seen sound) ∙
+      ap (λ p. own_entry p n.value ++ (map.entries (table_of n.zero) ++ map.entries (table_of n.one))) (at_is n d seen)
 
 -- one step down towards a path that goes on with the bit
-module _ {V A : Type 0} (d : NodeModel V) (b : Bool) (o : Option (Box (NodeModel V) A)) (q : Path) (side : IsTrue (begins (d.at ++ b ∷ []) q)) (under : IsUnder (d.at ++ b ∷ []) o) (table : (z : Path) → IsTrue (begins (d.at ++ b ∷ []) z) → map.get d.table z ≡ map.get (table_of o) z) where
+module _ {V A : Type 0} (d : NodeModel V) (b : Bool) (o : Option (Box (NodeModel V) A)) (q : Path) (side : IsTrue (begins (d.at ++ b ∷ []) q))
+    (under : IsUnder (d.at ++ b ∷ []) o) (table : (z : Path) → IsTrue (begins (d.at ++ b ∷ []) z) → map.get d.table z ≡ map.get (table_of o) z) where
   pub none_visits : o ≡ None → visits_beyond d.table d.at q ≡ 0
   none_visits is = visits_step d b o q side under table ∙ ap (λ z. link_visits z q) is
 

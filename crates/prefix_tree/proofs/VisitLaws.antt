@@ -9,6 +9,7 @@ use Rattle.std.specs.Option.{is_some}
 use Rattle.std.specs.FinMap as map
 use Rattle.std.specs.FinMap.{get-empty}
 use Rattle.std.specs.declared.boxed.Box.{Box}
+use Rattle.base.proofs.Bools.{never, and_false}
 use Rattle.identity.specs.Path.{Path, path_cmp, begins}
 use Rattle.prefix_tree.specs.Table.{PathMap}
 use Rattle.prefix_tree.specs.Visits.{goes_on, is_place, visits, visits_beyond, nodes_on_way}
@@ -16,7 +17,7 @@ use Rattle.prefix_tree.specs.Inside.Around.{NodeModel, KeysUnder, table_of, IsUn
 use Rattle.prefix_tree.proofs.Begins.{begins_self, begins_push, side_begins, begins_length, begins_whole}
 use Rattle.prefix_tree.proofs.Numbers.{begins_prefix}
 use Rattle.prefix_tree.proofs.AroundLaws.{under_off}
-use Rattle.prefix_tree.proofs.NodePlaces.{never_so, goes_same, goes_wider, goes_none, place_same, place_goes}
+use Rattle.prefix_tree.proofs.NodePlaces.{goes_same, goes_wider, goes_none, place_same, place_goes}
 
 -- of two beginnings of a path, the shorter one begins the longer one
 begins_both : (r a k : Path) → begins r k ≡ true → begins a k ≡ true → length r ≤ length a → begins r a ≡ true
@@ -63,7 +64,7 @@ module _ {V : Type 0} where
   unfolding visits
   none_visited m p place [] none = refl
   none_visited m p place (b ∷ q) none =
-      let off : goes_on m (p ++ b ∷ []) ≡ false = never_so _ (λ h. false≢true (sym none ∙ goes_wider m p (p ++ b ∷ []) (begins_push p b) h)) in
+      let off : goes_on m (p ++ b ∷ []) ≡ false = never _ (λ h. false≢true (sym none ∙ goes_wider m p (p ++ b ∷ []) (begins_push p b) h)) in
       let rest : visits m (p ++ b ∷ []) (is_place m (p ++ b ∷ [])) q ≡ 0 = none_visited m (p ++ b ∷ []) (is_place m (p ++ b ∷ [])) q off in
       (λ i. cond (place && off i) 1 0 + rest i) ∙ no_one place
 
@@ -97,21 +98,17 @@ module _ {V : Type 0} where
   -- below a place p a node is at a, and no key that p begins is beside it
   module _ (m x : PathMap V) (a : Path) (keys : KeysUnder a x) (place : is_place x a ≡ true) where
     apart : (p : Path) (b : Bool) → ((k : Path) → begins p k ≡ true → map.get m k ≡ map.get x k) → length p < length a → begins (p ++ b ∷ []) a ≡ false → goes_on m (p ++ b ∷ []) ≡ false
-    apart p b f lt off = goes_none m (p ++ b ∷ []) (λ k on. f k (side_begins p k b on) ∙ under_off a k x keys (never_so _ (λ both.
+    apart p b f lt off = goes_none m (p ++ b ∷ []) (λ k on. f k (side_begins p k b on) ∙ under_off a k x keys (never _ (λ both.
         false≢true (sym off ∙ begins_both (p ++ b ∷ []) a k on both (let h = length-append p (b ∷ []) in omega (arith, lt, h))))))
 
     no_place : (p : Path) → ((k : Path) → begins p k ≡ true → map.get m k ≡ map.get x k) → length p < length a → is_place m p ≡ false
     unfolding is_place
     no_place p f lt =
-        let none : map.get m p ≡ None = f p (begins_self p) ∙ under_off a p x keys (never_so _ (λ on. let h = begins_length a p on in absurd (omega (arith, h, lt)))) in
+        let none : map.get m p ≡ None = f p (begins_self p) ∙ under_off a p x keys (never _ (λ on. let h = begins_length a p on in absurd (omega (arith, h, lt)))) in
         ap (λ o. is_some o || goes_on m (p ++ false ∷ []) && goes_on m (p ++ true ∷ [])) none ∙ sides (begins (p ++ false ∷ []) a) refl
       where
         sides : (t : Bool) → begins (p ++ false ∷ []) a ≡ t → (goes_on m (p ++ false ∷ []) && goes_on m (p ++ true ∷ [])) ≡ false
-        sides true is = ap (λ z. goes_on m (p ++ false ∷ []) && z) (apart p true f lt (one_side p a is)) ∙ falls (goes_on m (p ++ false ∷ []))
-          where
-            falls : (t : Bool) → (t && false) ≡ false
-            falls true = refl
-            falls false = refl
+        sides true is = ap (λ z. goes_on m (p ++ false ∷ []) && z) (apart p true f lt (one_side p a is)) ∙ and_false (goes_on m (p ++ false ∷ []))
         sides false is = ap (λ z. z && goes_on m (p ++ true ∷ [])) (apart p false f lt is)
 
     way_here : (p r : Path) → p ≡ a → ((k : Path) → begins p k ≡ true → map.get m k ≡ map.get x k) → visits m p (is_place m p) r ≡ cond (begins a (p ++ r)) (visits_beyond x a (p ++ r)) 0
@@ -125,7 +122,7 @@ module _ {V : Type 0} where
     unfolding visits
     way p [] on f = elim (cases_eq (length p) (length a)) [
       | inl same ↦ way_here p [] (begins_whole p a on (omega (arith, same))) f
-      | inr other ↦ sym (ap (λ t. cond t (visits_beyond x a (p ++ [])) 0) (never_so _ (λ long.
+      | inr other ↦ sym (ap (λ t. cond t (visits_beyond x a (p ++ [])) 0) (never _ (λ long.
           let le = begins_length p a on in let h = begins_length a (p ++ []) long in let e = length-append p [] in absurd (omega (arith, le, h, e, other)))))
     ]
     way p (b ∷ r) on f = elim (cases_eq (length p) (length a)) [
@@ -136,7 +133,11 @@ module _ {V : Type 0} where
         g : (k : Path) → begins (p ++ b ∷ []) k ≡ true → map.get m k ≡ map.get x k
         g k go = f k (side_begins p k b go)
 
-        further : length p < length a → (t : Bool) → begins (p ++ b ∷ []) a ≡ t → (begins (p ++ b ∷ []) a ≡ true → ((k : Path) → begins (p ++ b ∷ []) k ≡ true → map.get m k ≡ map.get x k) → visits m (p ++ b ∷ []) (is_place m (p ++ b ∷ [])) r ≡ cond (begins a ((p ++ b ∷ []) ++ r)) (visits_beyond x a ((p ++ b ∷ []) ++ r)) 0) → cond (is_place m p && goes_on m (p ++ b ∷ [])) 1 0 + visits m (p ++ b ∷ []) (is_place m (p ++ b ∷ [])) r ≡ cond (begins a (p ++ b ∷ r)) (visits_beyond x a (p ++ b ∷ r)) 0
+        further : length p < length a → (t : Bool) → begins (p ++ b ∷ []) a ≡ t →
+            (begins (p ++ b ∷ []) a ≡ true → ((k : Path) → begins (p ++ b ∷ []) k ≡ true → map.get m k ≡ map.get x k) →
+            visits m (p ++ b ∷ []) (is_place m (p ++ b ∷ [])) r ≡ cond (begins a ((p ++ b ∷ []) ++ r)) (visits_beyond x a ((p ++ b ∷ []) ++ r)) 0) →
+            cond (is_place m p && goes_on m (p ++ b ∷ [])) 1 0 + visits m (p ++ b ∷ []) (is_place m (p ++ b ∷ [])) r ≡ cond (begins a (p ++ b ∷ r))
+            (visits_beyond x a (p ++ b ∷ r)) 0
         further lt true is rest =
             ap (λ t. cond (t && goes_on m (p ++ b ∷ [])) 1 0 + visits m (p ++ b ∷ []) (is_place m (p ++ b ∷ [])) r) (no_place p f lt)
             ∙ none_more (goes_on m (p ++ b ∷ [])) _ ∙ rest is g ∙ ap (λ z. cond (begins a z) (visits_beyond x a z) 0) (append_assoc p (b ∷ []) r)
@@ -144,13 +145,15 @@ module _ {V : Type 0} where
             let off : goes_on m (p ++ b ∷ []) ≡ false = apart p b f lt is in
             let none : visits m (p ++ b ∷ []) (is_place m (p ++ b ∷ [])) r ≡ 0 = none_visited m (p ++ b ∷ []) (is_place m (p ++ b ∷ [])) r off in
             (λ i. cond (is_place m p && off i) 1 0 + none i) ∙ no_one (is_place m p)
-            ∙ sym (ap (λ t. cond t (visits_beyond x a (p ++ b ∷ r)) 0) (never_so _ (λ long. false≢true (sym is ∙ begins_both (p ++ b ∷ []) a (p ++ b ∷ r)
+            ∙ sym (ap (λ t. cond t (visits_beyond x a (p ++ b ∷ r)) 0) (never _ (λ long. false≢true (sym is ∙ begins_both (p ++ b ∷ []) a (p ++ b ∷ r)
             (subst (λ z. begins (p ++ b ∷ []) z ≡ true) (append_assoc p (b ∷ []) r) (begins_prefix (p ++ b ∷ []) r)) long
             (let h = length-append p (b ∷ []) in omega (arith, lt, h))))))
 
 module _ {V A : Type 0} where
   -- one step down
-  pub visits_step : (d : NodeModel V) (b : Bool) (o : Option (Box (NodeModel V) A)) (q : Path) → begins (d.at ++ b ∷ []) q ≡ true → IsUnder (d.at ++ b ∷ []) o → ((z : Path) → begins (d.at ++ b ∷ []) z ≡ true → map.get d.table z ≡ map.get (table_of o) z) → visits_beyond d.table d.at q ≡ link_visits o q
+  pub visits_step : (d : NodeModel V) (b : Bool) (o : Option (Box (NodeModel V) A)) (q : Path) → begins (d.at ++ b ∷ []) q ≡ true →
+      IsUnder (d.at ++ b ∷ []) o → ((z : Path) → begins (d.at ++ b ∷ []) z ≡ true → map.get d.table z ≡ map.get (table_of o) z) →
+      visits_beyond d.table d.at q ≡ link_visits o q
   unfolding visits_beyond visits
   visits_step d b o q side under table =
       ap (visits d.table d.at true) (ap (drop (length d.at)) split ∙ drop-append_seam d.at (b ∷ rest)) ∙ following o under table
@@ -161,13 +164,16 @@ module _ {V A : Type 0} where
       split : q ≡ d.at ++ (b ∷ rest)
       split = begins_split (d.at ++ b ∷ []) q side ∙ append_assoc d.at (b ∷ []) rest
 
-      following : (o : Option (Box (NodeModel V) A)) → IsUnder (d.at ++ b ∷ []) o → ((z : Path) → begins (d.at ++ b ∷ []) z ≡ true → map.get d.table z ≡ map.get (table_of o) z) → cond (goes_on d.table (d.at ++ b ∷ [])) 1 0 + visits d.table (d.at ++ b ∷ []) (is_place d.table (d.at ++ b ∷ [])) rest ≡ link_visits o q
+      following : (o : Option (Box (NodeModel V) A)) → IsUnder (d.at ++ b ∷ []) o →
+          ((z : Path) → begins (d.at ++ b ∷ []) z ≡ true → map.get d.table z ≡ map.get (table_of o) z) →
+          cond (goes_on d.table (d.at ++ b ∷ [])) 1 0 + visits d.table (d.at ++ b ∷ []) (is_place d.table (d.at ++ b ∷ [])) rest ≡ link_visits o q
       following None under table =
           let off : goes_on d.table (d.at ++ b ∷ []) ≡ false = goes_none d.table (d.at ++ b ∷ []) (λ z on. table z on ∙ get-empty path_cmp z) in
           let none : visits d.table (d.at ++ b ∷ []) (is_place d.table (d.at ++ b ∷ [])) rest ≡ 0 = none_visited d.table (d.at ++ b ∷ []) (is_place d.table (d.at ++ b ∷ [])) rest off in
           λ i. cond (off i) 1 0 + none i
       following (Some c) under table =
-          let some : goes_on d.table (d.at ++ b ∷ []) ≡ true = goes_same d.table c.value.table (d.at ++ b ∷ []) table ∙ goes_wider c.value.table (d.at ++ b ∷ []) c.value.at under.loose.extends (place_goes c.value.table c.value.at under.place) in
+          let some : goes_on d.table (d.at ++ b ∷ []) ≡ true = goes_same d.table c.value.table (d.at ++ b ∷ []) table ∙
+          goes_wider c.value.table (d.at ++ b ∷ []) c.value.at under.loose.extends (place_goes c.value.table c.value.at under.place) in
           let on : visits d.table (d.at ++ b ∷ []) (is_place d.table (d.at ++ b ∷ [])) rest ≡ cond (begins c.value.at q) (visits_beyond c.value.table c.value.at q) 0 =
           way d.table c.value.table c.value.at under.loose.keys under.place (d.at ++ b ∷ []) rest under.loose.extends table
           ∙ ap (λ z. cond (begins c.value.at z) (visits_beyond c.value.table c.value.at z) 0) (sym (begins_split (d.at ++ b ∷ []) q side)) in

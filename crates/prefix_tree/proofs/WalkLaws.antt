@@ -23,7 +23,8 @@ module _ {X : Type 0} where
 
 module _ {V A : Type 0} (n : Inside V A) (d : NodeModel V) (seen : node_view n.at n.value n.zero n.one ≡ d) (sound : IsTrue d.sound) where
   -- the node's own entry, then those on its two sides
-  pub walk_node : (o x y z : List (Path × V)) → x ≡ o ++ own_entry d.at (map.get d.table d.at) → y ≡ x ++ map.entries (table_of n.zero) → z ≡ y ++ map.entries (table_of n.one) → z ≡ o ++ map.entries d.table
+  pub walk_node : (o x y z : List (Path × V)) → x ≡ o ++ own_entry d.at (map.get d.table d.at) → y ≡ x ++ map.entries (table_of n.zero) →
+      z ≡ y ++ map.entries (table_of n.one) → z ≡ o ++ map.entries d.table
   walk_node o x y z a b c = in_turn _ _ _ _ o x y z (entries_node n d seen sound) (a ∙ ap (λ v. o ++ own_entry d.at v) (read_here n d seen sound)) b c
 
   pub own_added : (o : List (Path × V)) (v : V) → n.value ≡ Some v → o ++ (n.at, v) ∷ [] ≡ o ++ own_entry d.at (map.get d.table d.at)

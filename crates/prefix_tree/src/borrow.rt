@@ -10,7 +10,8 @@ ghost use Rattle.prefix_tree.specs.Inside.Grafting.{steps_at_key, IsOnWay, Borro
 
 use crate::edit::visit;
 use crate::node::{Link, Node};
-use crate::{Steps, path};
+use crate::path;
+use base::Steps;
 use identity::Prefix;
 use std::alloc::Allocator;
 use std::sync::ledger::Ledger;

@@ -4,8 +4,8 @@ ghost use Rattle.std.specs.Prelude.{◌≡◌, ◌++◌, [], IsTrue, IfOk, OnOk}
 ghost use Rattle.std.specs.FinMap as map;
 ghost use Rattle.prefix_tree.specs.Inside.Around.{own_entry, table_of, IsUnder};
 
-use crate::TryCopy;
 use crate::node::{Link, Node};
+use base::TryCopy;
 use identity::Prefix;
 use std::alloc::{AllocError, Allocator};
 

@@ -12,7 +12,8 @@ ghost use Rattle.prefix_tree.specs.Inside.Around.{KeysUnder, IsFirm, IsUnder, Is
 ghost use Rattle.prefix_tree.specs.Visits.{is_place, visits_beyond};
 
 use crate::node::{Link, Node};
-use crate::{Steps, path};
+use crate::path;
+use base::Steps;
 use identity::Prefix;
 use std::alloc::{AllocError, Allocator};
 use std::sync::ledger::Ledger;

@@ -5,8 +5,8 @@ ghost use Rattle.std.specs.FinMap as map;
 ghost use Rattle.std.specs.Option.{option_copied};
 ghost use Rattle.prefix_tree.specs.Change.{IsChanged};
 
-use crate::TryCopy;
 use crate::ordered::OrderedMap;
+use base::TryCopy;
 use identity::Prefix;
 use std::alloc::{AllocError, Allocator};
 use std::marker::Model;

@@ -9,7 +9,8 @@ ghost use Rattle.prefix_tree.specs.Inside.Around.{table_of, own_entry, IsUnder};
 ghost use Rattle.prefix_tree.specs.Next.{first_entry, entry_past};
 
 use crate::node::{Link, Node};
-use crate::{Steps, path};
+use crate::path;
+use base::Steps;
 use identity::Prefix;
 use std::alloc::Allocator;
 use std::sync::ledger::Ledger;

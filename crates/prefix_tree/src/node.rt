@@ -8,7 +8,8 @@ ghost use Rattle.identity.specs.Path.{begins};
 ghost use Rattle.prefix_tree.specs.Inside.Around.{table_of, nodes_of, IsUnder};
 ghost use Rattle.prefix_tree.specs.Visits.{is_place, visits_beyond};
 
-use crate::{Steps, path};
+use crate::path;
+use base::Steps;
 use identity::Prefix;
 use std::alloc::Allocator;
 use std::marker::Model;

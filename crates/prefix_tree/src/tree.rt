@@ -13,7 +13,7 @@ ghost use Rattle.prefix_tree.specs.Next.{next_entry};
 ghost use Rattle.prefix_tree.specs.Visits.{nodes_on_way};
 
 use crate::node::Node;
-use crate::{Steps, TryCopy};
+use base::{Steps, TryCopy};
 use identity::Prefix;
 use std::alloc::{AllocError, Allocator};
 use std::marker::{Brand, Model};

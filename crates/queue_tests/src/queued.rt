@@ -5,7 +5,7 @@ ghost use Rattle.std.specs.Arc.{arc_value};
 use centre_core::{Body, Command, Sequence};
 use mailbox::Moment;
 use registration::Station;
-use station_queue::{Entry, Request, Sender, Taker, open_queue, settle_all};
+use station_queue::{Entry, Request, Sender, Taker, open_queue};
 use std::alloc::Global;
 use std::sync::{Arc, Wait};
 use std::test::*;
@@ -173,16 +173,4 @@ fn is_taken<R: Wait>(rt: &R, alloc: Global) -> Option<bool> {
 #[test]
 fn takes_what_was_sent(rt: HostRuntime) {
     assert_eq!(rt; is_taken(&rt, rt.alloc()), Some(true));
-}
-
-#[test]
-fn settles_an_empty_queue(rt: HostRuntime) {
-    let settled = match open_queue(rt.alloc(), SENDERS) {
-        Ok((mut taker, senders)) => {
-            settle_all(&mut taker, senders);
-            taker.take(&rt).is_none()
-        }
-        Err(_) => false,
-    };
-    assert!(rt; settled);
 }

@@ -1,5 +1,6 @@
 -- A batch of commands that is applied in turn.
-use Rattle.std.proofs.Common.{◌≡◌, ℕ, suc, ◌+◌, ◌-◌, ◌<◌, ◌≤◌, Bool, true, false, IsTrue, List, [], ◌∷◌, ◌++◌, length, map, take, drop, replicate, get_or, Some, Result, Ok, Err, OnOk, OnErr, refl, sym, ap, subst, ◌∙◌, append_assoc, option_map, arith}
+use Rattle.std.proofs.Common.{◌≡◌, ℕ, suc, ◌+◌, ◌-◌, ◌<◌, ◌≤◌, Bool, true, false, IsTrue, List, [], ◌∷◌, ◌++◌, length, map, take, drop, replicate}
+use Rattle.std.proofs.Common.{get_or, Some, Result, Ok, Err, OnOk, OnErr, refl, sym, ap, subst, ◌∙◌, append_assoc, option_map, arith}
 use Rattle.std.specs.List.{flat_map, slice_get}
 use Rattle.std.proofs.lemmas.List.Concat.{flat_map-cons}
 use Rattle.std.proofs.lemmas.List.Folds.{flat_map-map}
@@ -90,7 +91,9 @@ module _ {B : Type 0} where
   prefix_size : (cs : List (Asked B)) (n : ℕ) → length (flat_map command_text (take n cs)) ≤ length (flat_map command_text cs)
   prefix_size cs n =
       let parts : length (flat_map command_text cs) ≡ length (flat_map command_text (take n cs)) + length (flat_map command_text (drop n cs)) =
-      ap (λ (l : List (Asked B)). length (flat_map command_text l)) (sym (take-append-drop n cs)) ∙ ap length (flat_map-append command_text (take n cs) (drop n cs)) ∙ length-append (flat_map command_text (take n cs)) (flat_map command_text (drop n cs)) in
+      ap (λ (l : List (Asked B)). length (flat_map command_text l)) (sym (take-append-drop n cs)) ∙
+      ap length (flat_map-append command_text (take n cs) (drop n cs)) ∙
+      length-append (flat_map command_text (take n cs)) (flat_map command_text (drop n cs)) in
       omega (arith, parts)
 
   pub accepted_more : (s : State) (xs ys : List (Asked B)) → taken s (xs ++ ys) ≡ taken s xs ++ taken (after s xs) ys
@@ -132,7 +135,8 @@ module _ {B : Type 0} where
 
   take_one : (cs : List (Bor (Asked B))) (i : ℕ) (c : Bor (Asked B)) → i < length cs → c ≡ get_or cs i c → take (i + 1) (asked cs) ≡ take i (asked cs) ++ c.now ∷ []
   take_one cs i c lt is =
-      take-map (λ (x : Bor (Asked B)). x.now) (i + 1) cs ∙ map_more (λ (x : Bor (Asked B)). x.now) cs i c lt ∙ ap (λ l. l ++ (get_or cs i c).now ∷ []) (sym (take-map (λ (x : Bor (Asked B)). x.now) i cs))
+      take-map (λ (x : Bor (Asked B)). x.now) (i + 1) cs ∙ map_more (λ (x : Bor (Asked B)). x.now) cs i c lt ∙
+      ap (λ l. l ++ (get_or cs i c).now ∷ []) (sym (take-map (λ (x : Bor (Asked B)). x.now) i cs))
       ∙ ap (λ (x : Bor (Asked B)). take i (asked cs) ++ x.now ∷ []) (sym is)
 
   -- the next one found refused memory
@@ -140,7 +144,8 @@ module _ {B : Type 0} where
   wanted cs i c t lt is memory = record {
     most = omega (arith, lt, length-map cs (λ (x : Bor (Asked B)). x.now));
     wants = λ d e.
-        let here : slice_get (asked cs) i ≡ Some c.now = slice_get-map (λ (x : Bor (Asked B)). x.now) cs i ∙ ap (option_map (λ (x : Bor (Asked B)). x.now)) (slice_get_read cs (length cs) i c refl lt is) in
+        let here : slice_get (asked cs) i ≡ Some c.now = slice_get-map (λ (x : Bor (Asked B)). x.now) cs i ∙
+        ap (option_map (λ (x : Bor (Asked B)). x.now)) (slice_get_read cs (length cs) i c refl lt is) in
         let same : c.now ≡ d = cc in
         subst (λ (x : Asked B). IsTrue (needs_memory t x)) same memory;
   }
@@ -149,7 +154,8 @@ module _ {B : Type 0} where
   all_done : (cs : List (Asked B)) (t : State) → IsEnd cs (length cs) t
   all_done cs t = record { most = omega arith; wants = λ c e. let within = slice_get_within cs (length cs) c e in absurd (omega (arith, within)) }
 
-  pub applied_one : {C : Type 0} (s t u : State) (cs : List (Bor (Asked B))) (i : ℕ) (c : Bor (Asked B)) (outcomes more : List (Outcome C)) (accepted others : List (Asked B)) → i < length cs → c ≡ get_or cs i c
+  pub applied_one : {C : Type 0} (s t u : State) (cs : List (Bor (Asked B))) (i : ℕ) (c : Bor (Asked B)) (outcomes more : List (Outcome C))
+      (accepted others : List (Asked B)) → i < length cs → c ≡ get_or cs i c
       → AreApplied s (asked cs) i t outcomes accepted → u ≡ next t c.now → more ≡ outcomes ++ map Replied (replies C t (c.now ∷ [])) → others ≡ accepted ++ taken t (c.now ∷ [])
       → AreApplied s (asked cs) (i + 1) u more others
   applied_one {C} s t u cs i c outcomes more accepted others lt is so_far u_is more_is others_is =
@@ -159,15 +165,18 @@ module _ {B : Type 0} where
         state = u_is ∙ ap (λ x. next x c.now) so_far.state ∙ sym (after-append s prefix (c.now ∷ [])) ∙ ap (after s) (sym one);
         replied =
             more_is ∙ ap (λ l. l ++ map Replied (replies C t (c.now ∷ []))) so_far.replied ∙ ap (λ x. map Replied (replies C s prefix) ++ map Replied (replies C x (c.now ∷ []))) so_far.state
-            ∙ sym (map-append Replied (replies C s prefix) (replies C (after s prefix) (c.now ∷ []))) ∙ ap (map Replied) (sym (replies_more C s prefix (c.now ∷ []))) ∙ ap (λ l. map Replied (replies C s l)) (sym one);
+            ∙ sym (map-append Replied (replies C s prefix) (replies C (after s prefix) (c.now ∷ []))) ∙
+            ap (map Replied) (sym (replies_more C s prefix (c.now ∷ []))) ∙ ap (λ l. map Replied (replies C s l)) (sym one);
         taken =
             others_is ∙ ap (λ l. l ++ taken t (c.now ∷ [])) so_far.taken ∙ ap (λ x. taken s prefix ++ taken x (c.now ∷ [])) so_far.state
             ∙ sym (accepted_more s prefix (c.now ∷ [])) ∙ ap (taken s) (sym one);
       }
 
   -- none was applied, and no more are
-  pub stopped : {C : Type 0} (s t u : State) (cs : List (Bor (Asked B))) (i : ℕ) (c : Bor (Asked B)) (outcomes same : List (Outcome C)) (accepted others : List (Bor (Asked B))) → i < length cs → c ≡ get_or cs i c
-      → AreApplied s (asked cs) i t outcomes (asked accepted) → IsTrue (needs_memory t c.now) → u ≡ t → same ≡ outcomes → others ≡ accepted → (applied : ℕ) × AreApplied s (asked cs) applied u same (asked others) × IsEnd (asked cs) applied u
+  pub stopped : {C : Type 0} (s t u : State) (cs : List (Bor (Asked B))) (i : ℕ) (c : Bor (Asked B)) (outcomes same : List (Outcome C))
+      (accepted others : List (Bor (Asked B))) → i < length cs → c ≡ get_or cs i c
+      → AreApplied s (asked cs) i t outcomes (asked accepted) → IsTrue (needs_memory t c.now) → u ≡ t → same ≡ outcomes → others ≡ accepted →
+      (applied : ℕ) × AreApplied s (asked cs) applied u same (asked others) × IsEnd (asked cs) applied u
   stopped s t u cs i c outcomes same accepted others lt is so_far memory u_is same_is others_is = (
     i,
     record { state = u_is ∙ so_far.state; replied = same_is ∙ so_far.replied; taken = ap asked others_is ∙ so_far.taken },
@@ -188,9 +197,16 @@ module _ {B : Type 0} where
     pub are : AreApplied s cs applied t outcomes accepted
     pub end : IsEnd cs applied t
 
-  pub ends : {C E : Type 0} (s t : State) (cs : List (Bor (Asked B))) (outcomes : List (Outcome C)) (accepted : List (Asked B)) (result : Result Unit E) → OnOk result (AreApplied s (asked cs) (length cs) t outcomes accepted)
+  pub ends : {C E : Type 0} (s t : State) (cs : List (Bor (Asked B))) (outcomes : List (Outcome C)) (accepted : List (Asked B))
+      (result : Result Unit E) → OnOk result (AreApplied s (asked cs) (length cs) t outcomes accepted)
       → OnErr result ((applied : ℕ) × AreApplied s (asked cs) applied t outcomes accepted × IsEnd (asked cs) applied t) → Ends s (asked cs) t outcomes accepted
-  ends s t cs outcomes accepted (Ok u) are none = record { applied = length cs; are = are; end = subst (λ n. IsEnd (asked cs) n t) (length-map cs (λ (x : Bor (Asked B)). x.now)) (all_done (asked cs) t) }
+  ends s t cs outcomes accepted (Ok u) are none =
+      record {
+        applied = length cs;
+        are = are;
+        end = subst (λ n. IsEnd (asked cs) n t) (length-map cs (λ (x : Bor (Asked B)). x.now))
+            (all_done (asked cs) t);
+      }
   ends s t cs outcomes accepted (Err e) none some = record { applied = some.0; are = some.1; end = some.2 }
 
   module _ {C : Type 0} (s t : State) (cs items : List (Bor (Asked B))) (outcomes : List (Outcome C)) (e : Ends s (asked cs) t outcomes (asked items)) where
@@ -263,7 +279,8 @@ pub none_recorded : {B : Type 0} (A : Type 0) (s t : State) (cs : List (Asked B)
 none_recorded A s t cs same = record { applied = 0; state = same; these = refl }
 
 -- a batch applied after a checkpoint, which left the state as it was
-pub recorded_after : {B : Type 0} (A : Type 0) (s m t u : State) (cs : List (Asked B)) (given_are items : List (Bor (Asked B))) → m ≡ s → given_are ≡ items → u ≡ t → AreRecorded A m cs t (given A items) → AreRecorded A s cs u (given A given_are)
+pub recorded_after : {B : Type 0} (A : Type 0) (s m t u : State) (cs : List (Asked B)) (given_are items : List (Bor (Asked B))) → m ≡ s →
+    given_are ≡ items → u ≡ t → AreRecorded A m cs t (given A items) → AreRecorded A s cs u (given A given_are)
 recorded_after A s m t u cs given_are items same are last recorded = record {
   applied = recorded.applied;
   state = last ∙ recorded.state ∙ ap (λ x. after x (take recorded.applied cs)) same;

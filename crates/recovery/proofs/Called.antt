@@ -78,9 +78,6 @@ module _ (layout : Layout) (old : View) where
   label = Write label_at (label_sector layout)
 
   module _ (sides : View) (were : sides.calls ≡ old.calls ++ side_calls layout) where
-    pub calls_in_label : (new : View) (result : Result Unit DiskError) → IsCalled sides new label result → HasMade old new (format_calls layout)
-    calls_in_label new result called = made_on old sides new (side_calls layout) (Sync ∷ []) label result were called
-
     module _ (labelled : View) (made : labelled.calls ≡ sides.calls ++ label ∷ []) where
       all_but_one : labelled.calls ≡ old.calls ++ (side_calls layout ++ label ∷ [])
       all_but_one = all_made old.calls sides.calls labelled.calls (side_calls layout) label were made
@@ -102,10 +99,11 @@ module _ (old mid new : View) (first second : List Call) (were : mid.calls ≡ o
     now = has.now ∙ ap (λ (some : List Call). some ++ has.made) were ∙ append_assoc old.calls first has.made;
   }
 
--- some commands are kept by an append
-pub recorded_by_append : {B : Type 0} (A : Type 0) (place : Place) (items : List (Bor (Asked B))) → 1 ≤ length items → record_calls {A = A} place None (given A items) ≡ append_calls place.next (text_at A place items)
-recorded_by_append A place [] some = absurd (omega (arith, some))
-recorded_by_append A place (x ∷ xs) some = refl
+-- commands are written by one append to the journal
+pub recorded_by_one : {B : Type 0} (A : Type 0) (place : Place) (items : List (Bor (Asked B))) → 1 ≤ length items
+    → record_calls {A = A} place None (given A items) ≡ append_calls place.next (text_at A place items)
+recorded_by_one A place [] some = absurd (omega (arith, some))
+recorded_by_one A place (x ∷ xs) some = refl
 
 -- and by one to both halves, where a checkpoint is under way
 pub recorded_by_both : {B : Type 0} (A : Type 0) (place : Place) (it : Ongoing A) (items : List (Bor (Asked B))) → 1 ≤ length items

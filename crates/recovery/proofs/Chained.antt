@@ -24,25 +24,10 @@ fails_by NoMemory r q f is = tt
 fails_by EpochsUsedUp r q f is = f is
 fails_by Unready r q f is = f is
 
-pub fails_is : {X : Type 0} (e : StoreFault) (r : Result X StoreFault) → r ≡ Err e → Fails e r
-fails_is Unformatted r is = is
-fails_is BadGeometry r is = is
-fails_is (Damaged at) r is = is
-fails_is DiskFault r is = tt
-fails_is Broken r is = is
-fails_is NoMemory r is = tt
-fails_is EpochsUsedUp r is = is
-fails_is Unready r is = is
-
 -- what holds of an answer under a premise
 pub if_ok_then : {X E P : Type 0} (Q : X → Type 0) (r : Result X E) → (P → IfOk r Q) → IfOk r (λ x. P → Q x)
 if_ok_then Q (Ok x) is = is
 if_ok_then Q (Err e) is = tt
-
--- what is answered is what is there
-pub gives_same : {X : Type 0} (r q : Result X StoreFault) → r ≡ q → Gives (λ x. x) r q
-gives_same (Ok x) q is = sym is
-gives_same (Err e) q is = fails_is e q (sym is)
 
 module _ {X Y : Type 0} where
   -- the first step fails
@@ -79,7 +64,8 @@ module _ (layout : Layout) (image : List (List ℕ)) where
   unfolding side_in
   side_ab a b first second = then_past a (side_at layout side.A image) with_a first ∙ then_past b (side_at layout side.B image) (λ b. chosen a b) second
 
-  pub side_chosen : {X : Type 0} (view : X → Side) (a b : Option ℕ) (r : Result X StoreFault) → side_at layout side.A image ≡ Ok a → side_at layout side.B image ≡ Ok b → Gives view r (chosen a b) → Gives view r (side_in layout image)
+  pub side_chosen : {X : Type 0} (view : X → Side) (a b : Option ℕ) (r : Result X StoreFault) → side_at layout side.A image ≡ Ok a →
+      side_at layout side.B image ≡ Ok b → Gives view r (chosen a b) → Gives view r (side_in layout image)
   side_chosen view a b r first second is = subst (λ (q : Result Side StoreFault). Gives view r q) (sym (side_ab a b first second)) is
 
 -- ---- the records
@@ -90,18 +76,6 @@ module _ (A : Type 0) (layout : Layout) (s : Side) (image : List (List ℕ)) whe
 
   abbrev pub on_held : State → Held A → Result (State × ℕ) StoreFault
   on_held t held = played t held.0 >>= λ u. Ok (u, held.1)
-
-  pub played_half : (t : State) (e : StoreFault) → Fails e (whole t) → Fails e (played_by A layout s t image)
-  unfolding played_by
-  played_half t e is = fails_then e (whole t) (on_held t) is
-
-  pub played_fault : (t : State) (held : Held A) (e : StoreFault) → whole t ≡ Ok held → Fails e (played t held.0) → Fails e (played_by A layout s t image)
-  unfolding played_by
-  played_fault t held e there is = fails_past e held (whole t) (on_held t) there (fails_then e (played t held.0) (λ u. Ok (u, held.1)) is)
-
-  pub played_ok : (t u : State) (held : Held A) → whole t ≡ Ok held → played t held.0 ≡ Ok u → played_by A layout s t image ≡ Ok (u, held.1)
-  unfolding played_by
-  played_ok t u held there is = then_past held (whole t) (on_held t) there ∙ then_past u (played t held.0) (λ u. Ok (u, held.1)) is
 
   -- ---- by one side
 
@@ -125,14 +99,6 @@ module _ (A : Type 0) (layout : Layout) (s : Side) (image : List (List ℕ)) whe
 module _ (A : Type 0) (image : List (List ℕ)) where
   abbrev pub on_side : Layout → Result Opening StoreFault
   on_side layout = side_in layout image >>= λ s. opens_by A layout s image
-
-  pub opens_label : (e : StoreFault) → Fails e (layout_in image) → Fails e (opens A image)
-  unfolding opens
-  opens_label e is = fails_then e (layout_in image) on_side is
-
-  pub opens_side : (layout : Layout) (e : StoreFault) → layout_in image ≡ Ok layout → Fails e (side_in layout image) → Fails e (opens A image)
-  unfolding opens
-  opens_side layout e there is = fails_past e layout (layout_in image) on_side there (fails_then e (side_in layout image) (λ s. opens_by A layout s image) is)
 
   pub opens_on : (layout : Layout) (s : Side) → layout_in image ≡ Ok layout → side_in layout image ≡ Ok s → opens A image ≡ opens_by A layout s image
   unfolding opens

@@ -4,6 +4,7 @@ use Rattle.std.specs.Prelude.{IfSome, if◌then◌else◌}
 use Rattle.std.specs.Borrow.{Bor}
 use mathlib.Core.Bool.{false≢true}
 use Rattle.std.proofs.lemmas.Bool.Decides.{nat_tests}
+use Rattle.base.proofs.Options.{if_some}
 use Rattle.centre_core.specs.Asked.{Asked}
 use Rattle.centre_core.specs.State.{State}
 use Rattle.centre_core.specs.History.{after}
@@ -32,11 +33,8 @@ use Rattle.sector_disk.specs.declared.record.Call.{Call}
 
 -- ---- the register counts more
 
-if_some : {T : Type 0} {P Q : T → Type 0} (o : Option T) → ((t : T) → P t → Q t) → IfSome o P → IfSome o Q
-if_some None so is = tt
-if_some (Some t) so is = so t is
-
-module _ {A : Type 0} (layout : Layout) (side : Side) (epoch : Epoch) (current : Place) (count now : ℕ) (ongoing : Option (Ongoing A)) (belongs : IfSome ongoing (λ it. BelongsTo layout side epoch current count it)) where
+module _ {A : Type 0} (layout : Layout) (side : Side) (epoch : Epoch) (current : Place) (count now : ℕ) (ongoing : Option (Ongoing A))
+    (belongs : IfSome ongoing (λ it. BelongsTo layout side epoch current count it)) where
   -- a checkpoint under way belongs to a register that has accepted more
   pub belongs_later : count ≤ now → IfSome ongoing (λ it. BelongsTo layout side epoch current now it)
   belongs_later more =
@@ -85,10 +83,12 @@ module _ {A D : Type 0} (was old new : StoreView A D) (layout : was.layout ≡ o
 
   pub goes_from : (ongoing : Option (Ongoing A)) → GoesOn was new ongoing → GoesOn old new ongoing
   goes_from None goes = (stays_from goes.0, if_some new.ongoing begun_from goes.1)
-  goes_from (Some it) goes = subst (λ (e : Epoch). GoesBy old new it (ends_with (e + 1) it.register it.progress.written)) epoch (goes_by it (ends_with (was.epoch + 1) it.register it.progress.written) goes)
+  goes_from (Some it) goes = subst (λ (e : Epoch). GoesBy old new it (ends_with (e + 1) it.register it.progress.written)) epoch
+      (goes_by it (ends_with (was.epoch + 1) it.register it.progress.written) goes)
 
 -- what is kept then is kept before: the register, the disk and whether it is broken count for nothing
-pub kept_from : {A D : Type 0} (was old new : StoreView A D) (cs : List (Asked A)) → HasKept was new cs → was.layout ≡ old.layout → was.side ≡ old.side → was.epoch ≡ old.epoch → was.journal ≡ old.journal → was.ongoing ≡ old.ongoing → HasKept old new cs
+pub kept_from : {A D : Type 0} (was old new : StoreView A D) (cs : List (Asked A)) → HasKept was new cs → was.layout ≡ old.layout →
+    was.side ≡ old.side → was.epoch ≡ old.epoch → was.journal ≡ old.journal → was.ongoing ≡ old.ongoing → HasKept old new cs
 kept_from was old new [] kept layout side epoch journal ongoing = (stays_from was old new layout side epoch journal kept.0, kept.1 ∙ ongoing)
 kept_from {A} was old new (c ∷ cs) kept layout side epoch journal ongoing =
     subst (λ (it : Option (Ongoing A)). GoesOn (with_record old (c ∷ cs)) new (ongoing_after it (c ∷ cs))) ongoing
@@ -130,7 +130,8 @@ module _ {B : Type 0} (s t : State) (given_are items : List (Bor (Asked B))) (ar
 pub batch_leaves : (A : Type 0) (s t u : State) → u ≡ t → (old new : View) → LeavesOnly old new (OpensToEither A s t) → LeavesOnly old new (OpensToEither A s u)
 batch_leaves A s t u same old new leaves = subst (λ (x : State). LeavesOnly old new (OpensToEither A s x)) (sym same) leaves
 
-pub batch_kept : (A : Type 0) (layout : Layout) (side : Side) (epoch : Epoch) (journal : Place) (ongoing : Option (Ongoing A)) (t u : State) (disk : View) → u ≡ t → IsKept A layout side epoch journal ongoing t disk → IsKept A layout side epoch journal ongoing u disk
+pub batch_kept : (A : Type 0) (layout : Layout) (side : Side) (epoch : Epoch) (journal : Place) (ongoing : Option (Ongoing A)) (t u : State)
+    (disk : View) → u ≡ t → IsKept A layout side epoch journal ongoing t disk → IsKept A layout side epoch journal ongoing u disk
 batch_kept A layout side epoch journal ongoing t u disk same kept = subst (λ (x : State). IsKept A layout side epoch journal ongoing x disk) (sym same) kept
 
 -- ---- after a checkpoint that made room
@@ -149,11 +150,6 @@ it_fits A place cs is = grind (arith, nat_tests)
 pub no_room : {B : Type 0} (A : Type 0) (place : Place) (cs : List (Bor (Asked B))) → fits_in A place cs ≡ false → room_of place < data_size (text_at A place cs)
 no_room A place cs is = grind (arith, nat_tests)
 
-pub room_made : {T E A D : Type 0} (result : Result T E) (old new : StoreView A D) → OnOk result ((new.side ≡ other_of old.side) × (new.epoch ≡ old.epoch + 1) × (new.ongoing ≡ None))
-    → OnOk result (new.journal ≡ fresh_place old.layout (other_of old.side) old.register.count) → OnOk result (HasRoom old new false)
-room_made (Ok t) old new sides place = (record { side = sides.0; epoch = sides.1; journal = place }, sides.2)
-room_made (Err e) old new sides place = tt
-
 -- what a commit does after the room, by what the desk was before
 module _ {A D : Type 0} (was old : StoreView A D) (fits : Bool) (layout : was.layout ≡ old.layout) (room : HasRoom old was fits) (cs : List (Asked A)) where
   abbrev now : StoreView A D
@@ -171,7 +167,8 @@ module _ {A D : Type 0} (was old : StoreView A D) (fits : Bool) (layout : was.la
       let at_epoch : MayBegin now.layout now.epoch (following was.journal cs) = subst (λ (e : Epoch). MayBegin now.layout e (following was.journal cs)) (room.0.epoch) at_layout in
       subst (λ (place : Place). MayBegin now.layout now.epoch (following place cs)) (room.0.journal) at_epoch
 
-  pub room_calls_are : (begins also : Bool) → commit_calls_by was.layout was.side was.epoch was.journal was.ongoing cs begins also ≡ commit_calls_by now.layout now.side now.epoch now.journal now.ongoing cs begins also
+  pub room_calls_are : (begins also : Bool) → commit_calls_by was.layout was.side was.epoch was.journal was.ongoing cs begins also ≡ commit_calls_by
+      now.layout now.side now.epoch now.journal now.ongoing cs begins also
   room_calls_are begins also =
       ap (λ (l : Layout). commit_calls_by l was.side was.epoch was.journal was.ongoing cs begins also) layout_is
       ∙ ap (λ (s : Side). commit_calls_by now.layout s was.epoch was.journal was.ongoing cs begins also) (room.0.side)
@@ -180,7 +177,9 @@ module _ {A D : Type 0} (was old : StoreView A D) (fits : Bool) (layout : was.la
       ∙ ap (λ (it : Option (Ongoing A)). commit_calls_by now.layout now.side now.epoch now.journal it cs begins also) room.1
 
   -- on an honest disk: where the record fits, the root reads as before
-  pub room_calls_read : (begins was_open also : Bool) → (fits ≡ true → also ≡ was_open) → commit_calls_by was.layout was.side was.epoch was.journal was.ongoing cs begins also ≡ commit_calls_by now.layout now.side now.epoch now.journal now.ongoing cs begins (if fits then was_open else also)
+  pub room_calls_read : (begins was_open also : Bool) → (fits ≡ true → also ≡ was_open) →
+      commit_calls_by was.layout was.side was.epoch was.journal was.ongoing cs begins also ≡ commit_calls_by now.layout now.side now.epoch now.journal
+      now.ongoing cs begins (if fits then was_open else also)
   room_calls_read begins was_open also same = room_calls_are begins also ∙ ap (commit_calls_by now.layout now.side now.epoch now.journal now.ongoing cs begins) (sym (by_fits fits was_open also same))
 
 -- where nothing is kept none begins
@@ -194,6 +193,7 @@ pub some_then : (old mid new : View) (first second third : List Call) → mid.ca
 some_then old mid new first second third were same some = made_in_second old mid new first third were (subst (HasMade mid new) same some)
 
 -- m is the state s as the checkpoint left it
-pub desk_leaves : (A : Type 0) (s m t u : State) → m ≡ s → u ≡ t → (old mid new : View) → LeavesOnly old mid (OpensTo A s) → LeavesOnly mid new (OpensToEither A m t) → LeavesOnly old new (OpensToEither A s u)
+pub desk_leaves : (A : Type 0) (s m t u : State) → m ≡ s → u ≡ t → (old mid new : View) → LeavesOnly old mid (OpensTo A s) →
+    LeavesOnly mid new (OpensToEither A m t) → LeavesOnly old new (OpensToEither A s u)
 desk_leaves A s m t u same last old mid new first second =
     then_either A s u old mid new first (subst (λ (x : State). LeavesOnly mid new (OpensToEither A x u)) same (batch_leaves A m t u last mid new second))

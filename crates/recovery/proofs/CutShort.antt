@@ -6,7 +6,8 @@ use Rattle.sector_disk.specs.Run.{LeavesOnly}
 use Rattle.centre_core.specs.Asked.{Asked}
 use Rattle.centre_core.specs.State.{State}
 use Rattle.recovery.specs.Outcomes.{OpensToEither}
-use Rattle.recovery.specs.Lives.{Closed, Answered, Event, IsCall, HasAccepted, ComesBack, StoreView, IsLife, Open, Phase, Unanswered, answers, stopped, disk_of, fails, closes, opens_not, opens_to, stops_in, nothing}
+use Rattle.recovery.specs.Lives.{Closed, Answered, Event, IsCall, HasAccepted, ComesBack, StoreView, IsLife, Open, Phase, Unanswered, answers}
+use Rattle.recovery.specs.Lives.{stopped, disk_of, fails, closes, opens_not, opens_to, stops_in, nothing}
 use Rattle.recovery.proofs.Lived.{life_holds, life_honest}
 
 module _ {A D : Type 0} (view : D → View) (sound : (disk : D) → (view disk).honest → IsSound (view disk)) (base : State) (t : ℕ) where
@@ -26,7 +27,8 @@ module _ {A D : Type 0} (view : D → View) (sound : (disk : D) → (view disk).
   same_parts events event disk le = record { later = le; divides = λ image back left is. inl left }
 
   -- an opening
-  opening_parts : (events : List (Event A)) (event : Event A) (old new : D) → (view old).honest → LeavesOnly (view old) (view new) (IsImageOf (view old)) → t ≤ (view old).moment → Parts events event old new
+  opening_parts : (events : List (Event A)) (event : Event A) (old new : D) → (view old).honest →
+      LeavesOnly (view old) (view new) (IsImageOf (view old)) → t ≤ (view old).moment → Parts events event old new
   opening_parts events event old new honest leaves le =
       let later = leaves.later in
       record {
@@ -35,7 +37,8 @@ module _ {A D : Type 0} (view : D → View) (sound : (disk : D) → (view disk).
       }
 
   -- a call of a store
-  module _ (events : List (Event A)) (old new : StoreView A D) (accepted : List (Asked A)) (life : IsLife A view base events (Open old)) (done : HasAccepted A view old new accepted) (le : t ≤ (view old.disk).moment) where
+  module _ (events : List (Event A)) (old new : StoreView A D) (accepted : List (Asked A)) (life : IsLife A view base events (Open old))
+      (done : HasAccepted A view old new accepted) (le : t ≤ (view old.disk).moment) where
     accepted_parts : (broken : Bool) → old.broken ≡ broken → Parts events (Unanswered accepted) old.disk new.disk
     accepted_parts true down = subst (λ (k : StoreView A D). Parts events (Unanswered accepted) old.disk k.disk) (sym (done.broken down)) (same_parts events (Unanswered accepted) old.disk le)
     accepted_parts false up =
@@ -47,7 +50,8 @@ module _ {A D : Type 0} (view : D → View) (sound : (disk : D) → (view disk).
         }
 
   -- any call
-  pub call_parts : (events : List (Event A)) (old new : Phase A D) (event : Event A) → IsLife A view base events old → IsCall A view old event new → t ≤ (view (disk_of old)).moment → Parts events event (disk_of old) (disk_of new)
+  pub call_parts : (events : List (Event A)) (old new : Phase A D) (event : Event A) → IsLife A view base events old → IsCall A view old event new →
+      t ≤ (view (disk_of old)).moment → Parts events event (disk_of old) (disk_of new)
   call_parts events old new event life (nothing phase) le = same_parts events (Answered []) (disk_of phase) le
   call_parts events old new event life (opens_to disk store has) le = opening_parts events (Answered []) disk store.disk (life_honest view base events (Closed disk) life) has.left le
   call_parts events old new event life (opens_not disk then has) le = opening_parts events (Answered []) disk then (life_honest view base events (Closed disk) life) has.left le

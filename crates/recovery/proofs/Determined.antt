@@ -120,12 +120,14 @@ module _ {A : Type 0} (asked : Coded (Asked A)) where
         entries = held.0;
         each = λ image is. on_side layout side journal.form (epoch, base.1) (held.0, journal.next) image (∥∥₁_map some (λ h.
             subst (λ (b : State). IsOnSide layout side journal.form (epoch, b) (held.0, journal.next) image) (ap (λ (b : Base). b.1) (same_base base slot h))
-            (subst (λ (l : List (Entry A)). IsOnSide layout side journal.form (epoch, h.base) (l, journal.next) image) (ap (λ (k : Held A). k.0) (same_held base slot held half h)) (h.each image is))));
+            (subst (λ (l : List (Entry A)). IsOnSide layout side journal.form (epoch, h.base) (l, journal.next) image)
+            (ap (λ (k : Held A). k.0) (same_held base slot held half h)) (h.each image is))));
         accepted = ∥∥₁_elim some (history_prop base.1 (commands_of held.0)) (λ h.
             subst (λ (b : State). IsHistory b (commands_of held.0)) (ap (λ (b : Base). b.1) (same_base base slot h))
             (subst (λ (l : List (Entry A)). IsHistory h.base (commands_of l)) (ap (λ (k : Held A). k.0) (same_held base slot held half h)) h.accepted));
         made = ∥∥₁_elim some (state_set _ _) (λ h.
-            h.made ∙ ap (λ (b : State). after b (commands_of h.entries)) (ap (λ (b : Base). b.1) (same_base base slot h)) ∙ ap (λ (l : List (Entry A)). after base.1 (commands_of l)) (ap (λ (k : Held A). k.0) (same_held base slot held half h)));
+            h.made ∙ ap (λ (b : State). after b (commands_of h.entries)) (ap (λ (b : Base). b.1) (same_base base slot h)) ∙
+            ap (λ (l : List (Entry A)). after base.1 (commands_of l)) (ap (λ (k : Held A). k.0) (same_held base slot held half h)));
         counts = ∥∥₁_elim some (number_set _ _) (λ h. h.counts);
       }
 
@@ -199,6 +201,7 @@ module _ {A : Type 0} (asked : Coded (Asked A)) where
     kept ongoing some = record { stored = stored layout side epoch journal state disk sound (∥∥₁_map some (λ h. h.stored)); under_way = under_way ongoing some }
 
 -- so the register of a store is on its disk
-pub stored_by : {A D : Type 0} {g : Ghosts D} → Coded (Asked A) → ((disk : D) → (g.view disk).honest → IsSound (g.view disk)) → (store : Store A D g) → store.broken ≡ false → HasBeenHonest g.view (view_of store) → IsStoredIn A g.view (view_of store)
+pub stored_by : {A D : Type 0} {g : Ghosts D} → Coded (Asked A) → ((disk : D) → (g.view disk).honest → IsSound (g.view disk)) →
+    (store : Store A D g) → store.broken ≡ false → HasBeenHonest g.view (view_of store) → IsStoredIn A g.view (view_of store)
 stored_by {A} {D} {g} asked sound store whole honest =
     kept asked store.layout store.side store.epoch store.journal store.register (g.view store.disk) (sound store.disk honest.1) store.ongoing (∥∥₁_map store.stored (λ is. (is whole honest.0).1))

@@ -19,7 +19,7 @@ use Rattle.recovery.specs.declared.outcome.Outcome.TheVariants as outcome
 use Rattle.recovery.specs.Outcomes.{AreRecorded, IsAnswered, IsEnd, OpensToEither}
 use Rattle.recovery.specs.Serving.{IsAfterOne}
 use Rattle.recovery.specs.OpensTo.{OpensTo}
-use Rattle.recovery.specs.Lives.{HasAccepted, IsAnsweredCall, IsCall, IsStoredIn, IsUnansweredCall, Open, StoreView, Unanswered, acknowledged_of, answers, fails}
+use Rattle.recovery.specs.Lives.{HasAccepted, IsAnsweredCall, IsStoredIn, IsUnansweredCall, StoreView, acknowledged_of, answers, fails}
 use Rattle.recovery.proofs.Batches.{first_or, none_recorded, same_verdict}
 use Rattle.recovery.proofs.Stored.{nothing_done, only_before}
 
@@ -50,7 +50,8 @@ module _ {B : Type 0} where
     recorded_accepted : (recorded : List (Asked A)) → AreRecorded A s commands t recorded → IsHistory s recorded × (t ≡ after s recorded)
     recorded_accepted recorded are = subst (λ (l : List (Asked A)). IsHistory s l × (t ≡ after s l)) (sym are.these) (first_accepted are.applied are.state)
 
-    answered_accepted : {C : Type 0} (outcomes : List (Outcome C)) → IsAnswered s commands t outcomes → IsHistory s (map (under A) (acknowledged_of commands outcomes)) × (t ≡ after s (map (under A) (acknowledged_of commands outcomes)))
+    answered_accepted : {C : Type 0} (outcomes : List (Outcome C)) → IsAnswered s commands t outcomes →
+        IsHistory s (map (under A) (acknowledged_of commands outcomes)) × (t ≡ after s (map (under A) (acknowledged_of commands outcomes)))
     answered_accepted {C} outcomes is =
         let same : acknowledged_of commands outcomes ≡ taken s (take is.applied commands) = ap (acknowledged_of commands) is.outcomes_are ∙ acknowledged_are C s commands is.applied _ in
         subst (λ (l : List (Asked B)). IsHistory s (map (under A) l) × (t ≡ after s (map (under A) l))) (sym same) (first_accepted is.applied is.state)
@@ -73,7 +74,8 @@ module _ (A : Type 0) {D : Type 0} (view : D → View) where
     honest = honest;
     history = tt;
     made = refl;
-    any_moment = λ stored. only_before A store.register store.register (view store.disk) (view store.disk) (nothing_done A store.layout store.side store.epoch store.journal store.register (view store.disk) stored.stored sound);
+    any_moment = λ stored. only_before A store.register store.register (view store.disk) (view store.disk)
+        (nothing_done A store.layout store.side store.epoch store.journal store.register (view store.disk) stored.stored sound);
     kept = λ whole stored. stored;
     broken = λ is. refl;
   }
@@ -89,10 +91,6 @@ module _ (A : Type 0) {D : Type 0} (view : D → View) where
     kept = kept;
     broken = λ is. absurd (false≢true (sym whole ∙ is));
   }
-
-  -- of a call that accepts nothing
-  pub accepts_nothing : (old new : StoreView A D) → IsCall A view (Open old) (Unanswered []) (Open new) → HasAccepted A view old new []
-  accepts_nothing old new (fails was now cs done) = done
 
   module _ {B : Type 0} (old new : StoreView A D) (commands : List (Asked B)) where
     pub unanswered_idle : HasAccepted A view old new [] → IsUnansweredCall A view old commands new
@@ -113,7 +111,8 @@ module _ (A : Type 0) {D : Type 0} (view : D → View) where
 
   -- ---- one command
 
-  module _ {B : Type 0} (old new : StoreView A D) (c : Asked B) (honest : (view new.disk).honest) (leaves : IsStoredIn A view old → LeavesOnly (view old.disk) (view new.disk) (OpensToEither A old.register new.register))
+  module _ {B : Type 0} (old new : StoreView A D) (c : Asked B) (honest : (view new.disk).honest)
+      (leaves : IsStoredIn A view old → LeavesOnly (view old.disk) (view new.disk) (OpensToEither A old.register new.register))
       (kept : new.broken ≡ false → IsStoredIn A view old → IsStoredIn A view new) (broken : old.broken ≡ true → new ≡ old) where
     one_accepted : (cs : List (Asked A)) → IsHistory old.register cs × (new.register ≡ after old.register cs) → HasAccepted A view old new cs
     one_accepted cs is = record { honest = honest; history = is.0; made = is.1; any_moment = leaves; kept = kept; broken = broken }

@@ -1,17 +1,19 @@
 -- What the label and the roots of a disk state where they are at fault.
-use Rattle.std.proofs.Common.{◌≡◌, ◌≢◌, ◌⊎◌, inl, inr, ℕ, ◌<◌, ◌≤◌, Bool, true, false, eqb, leb, List, ◌++◌, length, take, drop, slice_index, Option, Some, None, Result, Ok, Err, refl, sym, subst, ap, ◌∙◌, if◌then◌else◌}
+use Rattle.std.proofs.Common.{◌≡◌, ◌≢◌, ◌⊎◌, inl, inr, ℕ, ◌<◌, ◌≤◌, Bool, true, false, eqb, leb, List, ◌++◌, length, take, drop, slice_index, Option}
+use Rattle.std.proofs.Common.{Some, None, Result, Ok, Err, refl, sym, subst, ap, ◌∙◌, if◌then◌else◌}
 use Rattle.std.proofs.Math.Seq.{take-append_seam}
 use Rattle.std.proofs.lemmas.Bool.{leb-true, lt-leb}
 use Rattle.std.proofs.lemmas.Bool.Decides.{eqb_tells}
 use Rattle.std.proofs.lemmas.List.{take-append-drop}
 use Rattle.std.proofs.lemmas.Slice.Eq.{bytes_eq-Decides}
+use Rattle.base.proofs.Options.{some_is}
 use Rattle.sector_disk.specs.Disk.{sector}
 use Rattle.registration.specs.Limits.{AreLimits}
 use Rattle.registration.specs.declared.limits.Limits.{Limits}
 use Rattle.identity.specs.Packed.{AreBytes}
 use Rattle.command_bytes.specs.Fields.{◌>>=◌, big, number_at}
 use Rattle.command_bytes.proofs.Numbers.{bytes-drop, number_takes}
-use Rattle.command_bytes.proofs.Steps.{bind_some, some_is, some_where}
+use Rattle.command_bytes.proofs.Steps.{bind_some, some_where}
 use Rattle.gated_journal.specs.Half.{IsClosed, IsOpen}
 use Rattle.checkpoint.specs.Half.{IsHalfSize}
 use Rattle.checkpoint.specs.declared.layout.Layout.{Layout}
@@ -87,14 +89,21 @@ record AreOf (limits : Limits) (rules radios mail stations : ℕ) : Type 0 where
   mail_is : mail ≡ limits.mail
   stations_are : stations ≡ limits.stations
 
-limits_from : (rules radios mail stations : ℕ) (may : Bool) (is : may ≡ true → AreLimits rules radios mail stations) (limits : Limits) → limits_by rules radios mail stations may is ≡ Some limits → AreOf limits rules radios mail stations
+limits_from : (rules radios mail stations : ℕ) (may : Bool) (is : may ≡ true → AreLimits rules radios mail stations) (limits : Limits) →
+    limits_by rules radios mail stations may is ≡ Some limits → AreOf limits rules radios mail stations
 limits_from rules radios mail stations true is limits e =
     let same : Limits = record { rules = rules; radios = radios; mail = mail; stations = stations; in_range = is refl } in
     let one : same ≡ limits = some_is same limits e in
-    record { rules_are = ap (λ (l : Limits). l.rules) one; radios_are = ap (λ (l : Limits). l.radios) one; mail_is = ap (λ (l : Limits). l.mail) one; stations_are = ap (λ (l : Limits). l.stations) one }
+    record {
+      rules_are = ap (λ (l : Limits). l.rules) one;
+      radios_are = ap (λ (l : Limits). l.radios) one;
+      mail_is = ap (λ (l : Limits). l.mail) one;
+      stations_are = ap (λ (l : Limits). l.stations) one;
+    }
 limits_from rules radios mail stations false is limits e = absurd cc
 
-layout_from : (limits : Limits) (journal : ℕ) (may : Bool) (is : may ≡ true → IsHalfSize journal) (layout : Layout) → layout_by limits journal may is ≡ Some layout → (limits ≡ layout.limits) × (journal ≡ layout.journal)
+layout_from : (limits : Limits) (journal : ℕ) (may : Bool) (is : may ≡ true → IsHalfSize journal) (layout : Layout) →
+    layout_by limits journal may is ≡ Some layout → (limits ≡ layout.limits) × (journal ≡ layout.journal)
 layout_from limits journal true is layout e =
     let same : Layout = record { limits = limits; journal = journal; in_range = is refl } in
     let one : same ≡ layout = some_is same layout e in
@@ -136,7 +145,8 @@ module _ (image : List (List ℕ)) where
       let t : LabelNumbers = b.0 in
       let holds = stated_takes (drop 8 first) t (bytes-drop 8 first are) b.1 in
       let following : drop 8 first ≡ after_name layout holds.0 = holds.1 ∙ ap (λ (u : LabelNumbers). stated_text u holds.0) (stated_only t layout b.2) in
-      let whole : first ≡ label_text layout ++ holds.0 = sym (take-append-drop 8 first) ∙ ap (λ (l : List ℕ). l ++ drop 8 first) begins ∙ ap (λ (l : List ℕ). name ++ l) following ∙ sym (label_parts layout holds.0) in
+      let whole : first ≡ label_text layout ++ holds.0 = sym (take-append-drop 8 first) ∙ ap (λ (l : List ℕ). l ++ drop 8 first) begins ∙
+      ap (λ (l : List ℕ). name ++ l) following ∙ sym (label_parts layout holds.0) in
       ap (take label_size) whole ∙ ap (λ (n : ℕ). take n (label_text layout ++ holds.0)) (sym (label_length layout)) ∙ take-append_seam (label_text layout) holds.0
 
   -- what the two tests make of the label
@@ -218,6 +228,7 @@ module _ (layout : Layout) (image : List (List ℕ)) where
   same_number : (n : ℕ) → eqb n n ≡ true
   same_number n = elim (eqb_tells n n) [ inl same ↦ same.0 | inr other ↦ absurd (other.1 refl) ]
 
-  pub equal_epochs : (epoch : ℕ) → IsOpen (root side.A) → IsOpen (root side.B) → slot_epoch layout side.A image ≡ Some epoch → slot_epoch layout side.B image ≡ Some epoch → side_in layout image ≡ Err (Damaged (root_at side.B))
+  pub equal_epochs : (epoch : ℕ) → IsOpen (root side.A) → IsOpen (root side.B) → slot_epoch layout side.A image ≡ Some epoch →
+      slot_epoch layout side.B image ≡ Some epoch → side_in layout image ≡ Err (Damaged (root_at side.B))
   unfolding side_in
   equal_epochs epoch a b stated_a stated_b = rw (open_side layout side.A image epoch a stated_a) (rw (open_side layout side.B image epoch b stated_b) (rw (same_number epoch) refl))

@@ -44,7 +44,15 @@ pub record Within (layout : Layout) (sectors : ℕ) : Type 0 where
 pub within : (layout : Layout) (sectors : ℕ) → disk_size layout ≤ sectors → Within layout sectors
 within layout sectors room =
     let some = layout.in_range.fewest in
-    record { label = omega (arith, room); header = omega (arith, room); root = omega (arith, room); other = omega (arith, room); gate = omega (arith, room, some); other_gate = omega (arith, room, some) }
+    record {
+      label = omega (arith, room);
+      header = omega (arith, room);
+      root = omega (arith, room);
+      other = omega (arith, room);
+      gate =
+          omega (arith, room, some);
+      other_gate = omega (arith, room, some);
+    }
 
 module _ (layout : Layout) (old one two three four five : View) where
   -- five writes
@@ -120,10 +128,16 @@ module _ {A : Type 0} (layout : Layout) (sides labelled last : View) where
         below = inl (closed_is (sector image (root_at side.B)) (as_before (root_at side.B) (omega arith) ∙ ready.other));
         slot = in_slot layout image (as_before (slot_at layout side.A) (omega arith) ∙ ready.header);
         form_is = ap stated_form (as_before (slot_at layout side.A) (omega arith) ∙ ready.header) ∙ header_form;
-        half = last_gate Numbered (half_end layout side.A - half_at layout side.A) (first_base layout).1.count image (half_at layout side.A) (half_end layout side.A) (closed_is (sector image (half_at layout side.A)) (as_before (half_at layout side.A) (omega arith) ∙ ready.gate));
+        half = last_gate Numbered (half_end layout side.A - half_at layout side.A) (first_base layout).1.count image (half_at layout side.A)
+            (half_end layout side.A)
+            (closed_is (sector image (half_at layout side.A)) (as_before (half_at layout side.A) (omega arith) ∙ ready.gate));
         gate = omega (arith, some);
       }
 
-pub opens_so : (A : Type 0) (layout : Layout) (sides labelled last : View) → AreReady layout sides → HasWritten sides labelled label_at (label_sector layout) (Ok tt) → HasSynced labelled last (Ok tt) → IsSound last → disk_size layout ≤ last.sectors
+pub opens_so : (A : Type 0) (layout : Layout) (sides labelled last : View) → AreReady layout sides →
+    HasWritten sides labelled label_at (label_sector layout) (Ok tt) → HasSynced labelled last (Ok tt) → IsSound last →
+    disk_size layout ≤ last.sectors
     → InEach last (λ image. opens A image ≡ Ok (opening layout side.A 1 (half_at layout side.A) (empty layout.limits)))
-opens_so A layout sides labelled last ready wrote syncs sound room image is = side_opens {A = A} layout side.A Numbered (first_base layout) (fresh layout side.A) image (image_opens layout sides labelled last ready wrote syncs sound room image is) tt
+opens_so A layout sides labelled last ready wrote syncs sound room image is =
+    side_opens {A = A} layout side.A Numbered (first_base layout) (fresh layout side.A) image
+    (image_opens layout sides labelled last ready wrote syncs sound room image is) tt

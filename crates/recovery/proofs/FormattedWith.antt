@@ -40,14 +40,16 @@ are_filled layout state sides written new is limits ready filled syncs =
 
 -- ---- the whole
 
-module _ (A : Type 0) (layout : Layout) (state : State) (sides labelled last : View) (is : IsState state) (ranges : StateInRange state) (limits : state.registered.limits ≡ layout.limits) (filled : AreFilled layout state sides)
+module _ (A : Type 0) (layout : Layout) (state : State) (sides labelled last : View) (is : IsState state) (ranges : StateInRange state)
+    (limits : state.registered.limits ≡ layout.limits) (filled : AreFilled layout state sides)
     (wrote : HasWritten sides labelled label_at (label_sector layout) (Ok tt)) (syncs : HasSynced labelled last (Ok tt)) (sound : IsSound last) (room : disk_size layout ≤ last.sectors) where
   pub filled_opens : EachIsOnSide {A = A} last layout side.A Numbered (1, state) (fresh layout side.A)
   filled_opens image here =
       let some = layout.in_range.fewest in
       let now : (k : ℕ) → sector image k ≡ sector labelled.reads k = λ k. durable_image last syncs.durable image here k ∙ ap (λ (l : List (List ℕ)). sector l k) syncs.reads in
       let as_before : (k : ℕ) → k ≢ label_at → sector image k ≡ sector sides.reads k = λ k apart. now k ∙ wrote.others k apart in
-      let written = written_slot layout (slot_at layout side.A) 1 state image is ranges limits (omega arith) (omega arith) (λ k lt. as_before (slot_at layout side.A + k) (omega arith) ∙ filled.rows k lt) in
+      let written = written_slot layout (slot_at layout side.A) 1 state image is ranges limits (omega arith) (omega arith)
+      (λ k lt. as_before (slot_at layout side.A + k) (omega arith) ∙ filled.rows k lt) in
       record {
         room = omega (arith, room, sound.count, here.count);
         label = ap (λ (bytes : List ℕ). take label_size bytes) (now label_at ∙ wrote.written.0) ∙ label_prefix layout;
@@ -55,7 +57,8 @@ module _ (A : Type 0) (layout : Layout) (state : State) (sides labelled last : V
         below = inl (closed_is (sector image (root_at side.B)) (as_before (root_at side.B) (omega arith) ∙ filled.other));
         slot = written.0;
         form_is = written.1;
-        half = last_gate Numbered (half_end layout side.A - half_at layout side.A) state.count image (half_at layout side.A) (half_end layout side.A) (closed_is (sector image (half_at layout side.A)) (as_before (half_at layout side.A) (omega arith) ∙ filled.gate));
+        half = last_gate Numbered (half_end layout side.A - half_at layout side.A) state.count image (half_at layout side.A) (half_end layout side.A)
+            (closed_is (sector image (half_at layout side.A)) (as_before (half_at layout side.A) (omega arith) ∙ filled.gate));
         gate = omega (arith, some);
       }
 

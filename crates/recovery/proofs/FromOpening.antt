@@ -1,10 +1,12 @@
 -- From what an image opens to, back to on which side it is.
-use Rattle.std.proofs.Common.{◌≡◌, inl, inr, ℕ, zero, suc, ◌+◌, ◌-◌, ◌<◌, Bool, true, false, ltb, List, [], ◌∷◌, length, slice_index, Option, Some, None, Result, Ok, Err, refl, sym, subst, ap, ◌∙◌, if◌then◌else◌, ◌≤◌, ◌≢◌, arith}
+use Rattle.std.proofs.Common.{◌≡◌, inl, inr, ℕ, zero, suc, ◌+◌, ◌-◌, ◌<◌, Bool, true, false, ltb, List, [], ◌∷◌, length, slice_index, Option, Some}
+use Rattle.std.proofs.Common.{None, Result, Ok, Err, refl, sym, subst, ap, ◌∙◌, if◌then◌else◌, ◌≤◌, ◌≢◌, arith}
 use Rattle.std.proofs.lemmas.Bool.{ltb-false, ltb-true}
 use Rattle.std.proofs.lemmas.Bool.Decides.{eqb_tells}
+use Rattle.base.proofs.Options.{some_is}
 use Rattle.sector_disk.specs.Disk.{View, IsImageOf, sector}
 use Rattle.identity.specs.Packed.{AreBytes}
-use Rattle.command_bytes.proofs.Steps.{some_is, some_where}
+use Rattle.command_bytes.proofs.Steps.{some_where}
 use Rattle.centre_core.specs.Asked.{Asked}
 use Rattle.centre_core.specs.State.{State}
 use Rattle.centre_core.specs.History.{accepts, after, next}
@@ -71,7 +73,8 @@ module _ (layout : Layout) (image : List (List ℕ)) where
   b_greater : (a b : ℕ) → IsStated layout side.A image (Some a) → IsStated layout side.B image (Some b) → a < b → Counts layout image side.B
   b_greater a b first second lt = record { root = second.0; below = λ epoch is. let same : b ≡ epoch = some_is b epoch (sym second.1 ∙ is) in inr (a, first.1, omega (arith, lt, same)) }
 
-  greater : (a b : ℕ) (s : Side) → IsStated layout side.A image (Some a) → IsStated layout side.B image (Some b) → a ≢ b → (less : Bool) → ltb a b ≡ less → (if less then (let r : Result Side StoreFault = Ok side.B in r) else Ok side.A) ≡ Ok s → Counts layout image s
+  greater : (a b : ℕ) (s : Side) → IsStated layout side.A image (Some a) → IsStated layout side.B image (Some b) → a ≢ b → (less : Bool) →
+      ltb a b ≡ less → (if less then (let r : Result Side StoreFault = Ok side.B in r) else Ok side.A) ≡ Ok s → Counts layout image s
   greater a b s first second apart true is e = subst (Counts layout image) (ok_is side.B s e) (b_greater a b first second (ltb-true a b is))
   greater a b s first second apart false is e = let le : b ≤ a = ltb-false a b is in subst (Counts layout image) (ok_is side.A s e) (a_greater a b first second (omega (arith, le, apart)))
 
@@ -143,16 +146,21 @@ module _ {A : Type 0} where
 
 module _ {A : Type 0} where
   -- a half's first closed gate lies within it
-  last_before : (fuel : ℕ) (form : Form) (before : ℕ) (image : List (List ℕ)) (at end : ℕ) (entries : List (Entry A)) (gate : ℕ) → at < end → end ≤ at + fuel → half_from fuel form before image at end ≡ Ok (entries, gate) → gate < end
+  last_before : (fuel : ℕ) (form : Form) (before : ℕ) (image : List (List ℕ)) (at end : ℕ) (entries : List (Entry A)) (gate : ℕ) → at < end →
+      end ≤ at + fuel → half_from fuel form before image at end ≡ Ok (entries, gate) → gate < end
   unfolding half_from
   last_before zero form before image at end entries gate lt le e = absurd (omega (arith, lt, le))
   last_before (suc fuel) form before image at end entries gate lt le e =
-      elim (record_at {A = A} form before image at end) as (λ r. record_at form before image at end ≡ r → half_on at r (λ x. half_from fuel form (before + length x.0) image x.1 end) ≡ Ok (entries, gate) → gate < end) [
+      elim (record_at {A = A} form before image at end) as
+      (λ r. record_at form before image at end ≡ r → half_on at r (λ x. half_from fuel form (before + length x.0) image x.1 end) ≡ Ok
+      (entries, gate) → gate < end) [
         | Err fault ↦ λ is f. absurd cc
         | Ok o ↦ λ is f. on (λ x rest. last_before fuel form (before + length x.0) image x.1 end rest gate) o is f
       ] refl e
     where
-      on : ((x : List (Asked A) × ℕ) (rest : List (Entry A)) → x.1 < end → end ≤ x.1 + fuel → half_from fuel form (before + length x.0) image x.1 end ≡ Ok (rest, gate) → gate < end) → (o : Option (List (Asked A) × ℕ)) → record_at form before image at end ≡ Ok o
+      on : ((x : List (Asked A) × ℕ) (rest : List (Entry A)) → x.1 < end → end ≤ x.1 + fuel →
+          half_from fuel form (before + length x.0) image x.1 end ≡ Ok (rest, gate) → gate < end) → (o : Option (List (Asked A) × ℕ)) →
+          record_at form before image at end ≡ Ok o
           → half_on at (Ok o) (λ x. half_from fuel form (before + length x.0) image x.1 end) ≡ Ok (entries, gate) → gate < end
       on go None is f = let same : at ≡ gate = gate_is [] entries at gate f in omega (arith, lt, same)
       on go (Some x) is f =
@@ -203,7 +211,8 @@ module _ (A : Type 0) where
       let is : opening layout s base.0 held.1 ran.0 ≡ o = ap (λ (x : State × ℕ). opening layout s base.0 x.1 x.0) same ∙ ok_is (opening layout s base.0 end.1 end.0) o ended.2 in
       subst (λ (p : Opening). After A p image) is there
 
-  pub on_side_after : (o : Opening) (image : List (List ℕ)) (is : After A o image) → AreBytes (sector image label_at) → o.next < half_end o.layout o.side → IsOnSide o.layout o.side (slot_form o.layout o.side image) (o.epoch, is.base) (is.entries, o.next) image
+  pub on_side_after : (o : Opening) (image : List (List ℕ)) (is : After A o image) → AreBytes (sector image label_at) →
+      o.next < half_end o.layout o.side → IsOnSide o.layout o.side (slot_form o.layout o.side image) (o.epoch, is.base) (is.entries, o.next) image
   on_side_after o image is bytes within =
       let label = label_only image bytes o.layout is.label in
       let counts = side_counts o.layout image o.side is.side in
@@ -242,7 +251,8 @@ module _ (A : Type 0) where
       let is = following o image e in
       let places = lies o.layout o.side in
       let some : half_at o.layout o.side < half_end o.layout o.side = omega (arith, o.layout.in_range.fewest) in
-      let within = last_before (half_end o.layout o.side - half_at o.layout o.side) (slot_form o.layout o.side image) is.base.count image (half_at o.layout o.side) (half_end o.layout o.side) is.entries o.next some (omega arith) is.half in
+      let within = last_before (half_end o.layout o.side - half_at o.layout o.side) (slot_form o.layout o.side image) is.base.count image
+      (half_at o.layout o.side) (half_end o.layout o.side) is.entries o.next some (omega arith) is.half in
       record {
         form = slot_form o.layout o.side image;
         base = is.base;

@@ -44,19 +44,30 @@ module _ {A D : Type 0} (old mid : StoreView A D) (stays : Stays old mid) where
     -- a row's write fails
     pub calls_in_rows : (o : Option (Ongoing A)) → is_some o ≡ true → IfSome o (λ was. HasMade before between (rows_calls old.layout old.side old.epoch was)) → HasMade before between (All o)
     calls_in_rows None some made = absurd (false≢true some)
-    calls_in_rows (Some was) some made = made_of_more before between (rows_calls old.layout old.side old.epoch was) (end_calls old.layout old.side old.epoch (ends_with (old.epoch + 1) was.register was.progress.written)) made
+    calls_in_rows (Some was) some made = made_of_more before between (rows_calls old.layout old.side old.epoch was)
+        (end_calls old.side (ends_with (old.epoch + 1) was.register was.progress.written)) made
 
     -- the rows end the image
     module _ (reported : IsStated mid true) where
-      pub calls_of_end : (o : Option (Ongoing A)) → is_some o ≡ true → Went old mid o → IfSome o (λ was. between.calls ≡ before.calls ++ rows_calls old.layout old.side old.epoch was) → IfSome mid.ongoing (λ it. after.calls ≡ between.calls ++ end_calls mid.layout mid.side mid.epoch true) → after.calls ≡ before.calls ++ All o
+      pub calls_of_end : (o : Option (Ongoing A)) → is_some o ≡ true → Went old mid o →
+          IfSome o (λ was. between.calls ≡ before.calls ++ rows_calls old.layout old.side old.epoch was) →
+          IfSome mid.ongoing (λ it. after.calls ≡ between.calls ++ end_calls mid.side true) → after.calls ≡ before.calls ++ All o
       calls_of_end None some went made ended = absurd (false≢true some)
       calls_of_end (Some was) some (is, here, gone) made ended =
-          let last : after.calls ≡ between.calls ++ end_calls mid.layout mid.side mid.epoch true = rw here at ended in
-          let same : after.calls ≡ between.calls ++ end_calls old.layout old.side old.epoch true = subst (λ (s : Side). after.calls ≡ between.calls ++ end_calls old.layout s old.epoch true) stays.side last in
-          subst (λ (b : Bool). after.calls ≡ before.calls ++ (rows_calls old.layout old.side old.epoch was ++ end_calls old.layout old.side old.epoch b)) (sym (ends was is here gone true reported)) (made_both before between after (rows_calls old.layout old.side old.epoch was) (end_calls old.layout old.side old.epoch true) made same)
+          let last : after.calls ≡ between.calls ++ end_calls mid.side true = rw here at ended in
+          let same : after.calls ≡ between.calls ++ end_calls old.side true =
+          subst (λ (s : Side). after.calls ≡ between.calls ++ end_calls s true) stays.side last in
+          subst (λ (b : Bool). after.calls ≡ before.calls ++
+          (rows_calls old.layout old.side old.epoch was ++ end_calls old.side b)) (sym (ends was is here gone true reported))
+          (made_both before between after (rows_calls old.layout old.side old.epoch was) (end_calls old.side true) made same)
 
-      pub calls_in_end : (o : Option (Ongoing A)) → is_some o ≡ true → Went old mid o → IfSome o (λ was. between.calls ≡ before.calls ++ rows_calls old.layout old.side old.epoch was) → HasMade between after (end_calls mid.layout mid.side mid.epoch true) → HasMade before after (All o)
+      pub calls_in_end : (o : Option (Ongoing A)) → is_some o ≡ true → Went old mid o →
+          IfSome o (λ was. between.calls ≡ before.calls ++ rows_calls old.layout old.side old.epoch was) →
+          HasMade between after (end_calls mid.side true) → HasMade before after (All o)
       calls_in_end None some went made ended = absurd (false≢true some)
       calls_in_end (Some was) some (is, here, gone) made ended =
-          let same : HasMade between after (end_calls old.layout old.side old.epoch true) = subst (λ (s : Side). HasMade between after (end_calls old.layout s old.epoch true)) stays.side ended in
-          subst (λ (b : Bool). HasMade before after (rows_calls old.layout old.side old.epoch was ++ end_calls old.layout old.side old.epoch b)) (sym (ends was is here gone true reported)) (made_in_second before between after (rows_calls old.layout old.side old.epoch was) (end_calls old.layout old.side old.epoch true) made same)
+          let same : HasMade between after (end_calls old.side true) = subst (λ (s : Side). HasMade between after (end_calls s true)) stays.side ended in
+          subst (λ (b : Bool). HasMade before after (rows_calls old.layout old.side old.epoch was ++ end_calls old.side b))
+          (sym (ends was is here gone true reported))
+          (made_in_second before between after (rows_calls old.layout old.side old.epoch was) (end_calls old.side true) made
+          same)

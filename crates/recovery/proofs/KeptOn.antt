@@ -54,7 +54,8 @@ module _ {A D : Type 0} (was mid new : StoreView A D) (layout : mid.layout ≡ w
   goes_as (Some it) is = by_as it (ends_with (was.epoch + 1) it.register it.progress.written) (subst (λ (e : Epoch). GoesBy mid new it (ends_with (e + 1) it.register it.progress.written)) epoch is)
 
 -- after a record
-pub kept_by : {A B D : Type 0} (old mid new : StoreView A D) (items : List (Bor (Asked B))) → 1 ≤ length items → mid.layout ≡ old.layout → mid.side ≡ old.side → mid.epoch ≡ old.epoch → mid.journal ≡ following old.journal (given A items)
+pub kept_by : {A B D : Type 0} (old mid new : StoreView A D) (items : List (Bor (Asked B))) → 1 ≤ length items → mid.layout ≡ old.layout →
+    mid.side ≡ old.side → mid.epoch ≡ old.epoch → mid.journal ≡ following old.journal (given A items)
     → mid.ongoing ≡ ongoing_after old.ongoing (given A items) → GoesOn mid new mid.ongoing → HasKept old new (given A items)
 kept_by old mid new [] some layout side epoch journal ongoing goes = absurd (omega (arith, some))
 kept_by {A} old mid new (x ∷ xs) some layout side epoch journal ongoing goes =
@@ -63,15 +64,18 @@ kept_by {A} old mid new (x ∷ xs) some layout side epoch journal ongoing goes =
 -- ---- its calls
 
 -- what goes on beside does not hang on the other half's journal
-ongoing_as : {A : Type 0} (layout : Layout) (side : Side) (epoch : Epoch) (o : Option (Ongoing A)) (cs : List (Asked A)) (begins was_open : Bool) → ongoing_calls layout side epoch (ongoing_after o cs) begins was_open ≡ ongoing_calls layout side epoch o begins was_open
+ongoing_as : {A : Type 0} (layout : Layout) (side : Side) (epoch : Epoch) (o : Option (Ongoing A)) (cs : List (Asked A)) (begins was_open : Bool) →
+    ongoing_calls layout side epoch (ongoing_after o cs) begins was_open ≡ ongoing_calls layout side epoch o begins was_open
 ongoing_as layout side epoch None cs begins was_open = refl
 ongoing_as layout side epoch (Some it) cs begins was_open = refl
 
-module _ {A B : Type 0} (layout : Layout) (side : Side) (epoch : Epoch) (place : Place) (ongoing : Option (Ongoing A)) (items : List (Bor (Asked B))) (some : 1 ≤ length items) (begins was_open : Bool) where
+module _ {A B : Type 0} (layout : Layout) (side : Side) (epoch : Epoch) (place : Place) (ongoing : Option (Ongoing A)) (items : List (Bor (Asked B)))
+    (some : 1 ≤ length items) (begins was_open : Bool) where
   calls_are : commit_calls_by layout side epoch place ongoing (given A items) begins was_open ≡ record_calls place ongoing (given A items) ++ ongoing_calls layout side epoch ongoing begins was_open
   calls_are = there items some
     where
-      there : (l : List (Bor (Asked B))) → 1 ≤ length l → commit_calls_by layout side epoch place ongoing (given A l) begins was_open ≡ record_calls place ongoing (given A l) ++ ongoing_calls layout side epoch ongoing begins was_open
+      there : (l : List (Bor (Asked B))) → 1 ≤ length l → commit_calls_by layout side epoch place ongoing (given A l) begins was_open ≡ record_calls
+          place ongoing (given A l) ++ ongoing_calls layout side epoch ongoing begins was_open
       there [] some = absurd (omega (arith, some))
       there (x ∷ xs) some = refl
 
@@ -79,12 +83,16 @@ module _ {A B : Type 0} (layout : Layout) (side : Side) (epoch : Epoch) (place :
   pub made_record : (old new : View) → HasMade old new (record_calls place ongoing (given A items)) → HasMade old new (commit_calls_by layout side epoch place ongoing (given A items) begins was_open)
   made_record old new has = rw calls_are (made_of_more old new (record_calls place ongoing (given A items)) (ongoing_calls layout side epoch ongoing begins was_open) has)
 
-  module _ (old mid new : View) (recorded : mid.calls ≡ old.calls ++ record_calls place ongoing (given A items)) (then : Option (Ongoing A)) (then_is : then ≡ ongoing_after ongoing (given A items)) where
+  module _ (old mid new : View) (recorded : mid.calls ≡ old.calls ++ record_calls place ongoing (given A items)) (then : Option (Ongoing A))
+      (then_is : then ≡ ongoing_after ongoing (given A items)) where
     then_as : ongoing_calls layout side epoch then begins was_open ≡ ongoing_calls layout side epoch ongoing begins was_open
     then_as = ap (λ (o : Option (Ongoing A)). ongoing_calls layout side epoch o begins was_open) then_is ∙ ongoing_as layout side epoch ongoing (given A items) begins was_open
 
-    pub made_all : new.calls ≡ mid.calls ++ ongoing_calls layout side epoch then begins was_open → new.calls ≡ old.calls ++ commit_calls_by layout side epoch place ongoing (given A items) begins was_open
-    made_all is = rw calls_are (made_both old mid new (record_calls place ongoing (given A items)) (ongoing_calls layout side epoch ongoing begins was_open) recorded (is ∙ ap (λ (l : List Call). mid.calls ++ l) then_as))
+    pub made_all : new.calls ≡ mid.calls ++ ongoing_calls layout side epoch then begins was_open →
+        new.calls ≡ old.calls ++ commit_calls_by layout side epoch place ongoing (given A items) begins was_open
+    made_all is = rw calls_are
+        (made_both old mid new (record_calls place ongoing (given A items)) (ongoing_calls layout side epoch ongoing begins was_open) recorded
+        (is ∙ ap (λ (l : List Call). mid.calls ++ l) then_as))
 
     pub made_some : HasMade mid new (ongoing_calls layout side epoch then begins was_open) → HasMade old new (commit_calls_by layout side epoch place ongoing (given A items) begins was_open)
     made_some has = rw calls_are (made_in_second old mid new (record_calls place ongoing (given A items)) (ongoing_calls layout side epoch ongoing begins was_open) recorded (rw then_as at has))

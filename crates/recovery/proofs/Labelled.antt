@@ -4,6 +4,7 @@ use Rattle.std.specs.Prelude.{IfSome, IsSome, nat_le}
 use Rattle.std.proofs.lemmas.Bool.{false≢true, le-leb}
 use Rattle.std.proofs.lemmas.List.{length-append, take-append-drop}
 use Rattle.std.specs.Coded.{le_prop}
+use Rattle.base.proofs.Bools.{and_is_true}
 use Rattle.sector_disk.specs.Disk.{sector}
 use Rattle.registration.specs.Limits.{AreLimits, rule_capacity, radio_capacity, mail_capacity, station_capacity}
 use Rattle.registration.specs.declared.limits.Limits.{Limits}
@@ -19,19 +20,19 @@ use Rattle.recovery.specs.Label.{layout_at, layout_in, layout_of_numbers, number
 
 -- ---- ranges
 
-pass : (a b : Bool) → a ≡ true → b ≡ true → (a && b) ≡ true
-pass true b at bt = bt
-pass false b at bt = absurd cc
-
 within_passes : (low high n : ℕ) → low ≤ n → n ≤ high → is_within low high n ≡ true
-within_passes low high n above below = pass (nat_le low n) (nat_le n high) (le-leb low n above) (le-leb n high below)
+within_passes low high n above below = and_is_true (nat_le low n) (nat_le n high) (le-leb low n above) (le-leb n high below)
 
 limits_are : (limits : Limits) → are_limits limits.rules limits.radios limits.mail limits.stations ≡ true
 limits_are limits =
     let is = limits.in_range in
-    pass (is_within 1 rule_capacity limits.rules && is_within 1 radio_capacity limits.radios) (is_within 1 mail_capacity limits.mail && is_within 1 station_capacity limits.stations)
-    (pass (is_within 1 rule_capacity limits.rules) (is_within 1 radio_capacity limits.radios) (within_passes 1 rule_capacity limits.rules is.some_rules is.most_rules) (within_passes 1 radio_capacity limits.radios is.some_radios is.most_radios))
-    (pass (is_within 1 mail_capacity limits.mail) (is_within 1 station_capacity limits.stations) (within_passes 1 mail_capacity limits.mail is.some_mail is.most_mail) (within_passes 1 station_capacity limits.stations is.some_stations is.most_stations))
+    and_is_true (is_within 1 rule_capacity limits.rules && is_within 1 radio_capacity limits.radios) (is_within 1 mail_capacity limits.mail && is_within 1 station_capacity limits.stations)
+    (and_is_true (is_within 1 rule_capacity limits.rules) (is_within 1 radio_capacity limits.radios)
+    (within_passes 1 rule_capacity limits.rules is.some_rules is.most_rules)
+    (within_passes 1 radio_capacity limits.radios is.some_radios is.most_radios))
+    (and_is_true (is_within 1 mail_capacity limits.mail) (is_within 1 station_capacity limits.stations)
+    (within_passes 1 mail_capacity limits.mail is.some_mail is.most_mail)
+    (within_passes 1 station_capacity limits.stations is.some_stations is.most_stations))
 
 same_ranges : (rules radios mail stations : ℕ) (p q : AreLimits rules radios mail stations) → p ≡ q
 same_ranges rules radios mail stations p q = λ i. record {
@@ -50,8 +51,17 @@ same_size journal p q = λ i. record { fewest = le_prop p.fewest q.fewest i; mos
 
 -- ---- the values of a layout's numbers
 
-limits_made : (limits : Limits) (may : Bool) (is : may ≡ true → AreLimits limits.rules limits.radios limits.mail limits.stations) → may ≡ true → limits_by limits.rules limits.radios limits.mail limits.stations may is ≡ Some limits
-limits_made limits true is passes = λ i. Some (record { rules = limits.rules; radios = limits.radios; mail = limits.mail; stations = limits.stations; in_range = same_ranges limits.rules limits.radios limits.mail limits.stations (is refl) limits.in_range i })
+limits_made : (limits : Limits) (may : Bool) (is : may ≡ true → AreLimits limits.rules limits.radios limits.mail limits.stations) → may ≡ true →
+    limits_by limits.rules limits.radios limits.mail limits.stations may is ≡ Some limits
+limits_made limits true is passes = λ i.
+    Some (record {
+      rules = limits.rules;
+      radios = limits.radios;
+      mail = limits.mail;
+      stations = limits.stations;
+      in_range =
+          same_ranges limits.rules limits.radios limits.mail limits.stations (is refl) limits.in_range i;
+    })
 limits_made limits false is passes = absurd cc
 
 limits_again : (limits : Limits) → limits_of limits.rules limits.radios limits.mail limits.stations ≡ Some limits
@@ -62,7 +72,8 @@ layout_made layout true is passes = λ i. Some (record { limits = layout.limits;
 layout_made layout false is passes = absurd cc
 
 layout_again : (layout : Layout) → layout_of layout.limits layout.journal ≡ Some layout
-layout_again layout = layout_made layout (is_half_size layout.journal) (half_size_passes layout.journal) (within_passes fewest_sectors most_sectors layout.journal layout.in_range.fewest layout.in_range.most)
+layout_again layout = layout_made layout (is_half_size layout.journal) (half_size_passes layout.journal)
+    (within_passes fewest_sectors most_sectors layout.journal layout.in_range.fewest layout.in_range.most)
 
 -- ---- the numbers of a layout
 
@@ -77,7 +88,8 @@ label_numbers layout = record {
 }
 
 stated_again : (n rules radios mail stations journal : ℕ) (rest : List ℕ) → n < 256 ^ 2 → rules < 256 ^ 4 → radios < 256 ^ 4 → mail < 256 ^ 4 → stations < 256 ^ 4 → journal < 256 ^ 4
-    → numbers_at (big 2 n ++ (big 4 rules ++ (big 4 radios ++ (big 4 mail ++ (big 4 stations ++ (big 4 journal ++ rest)))))) ≡ Some (record { number = n; rules = rules; radios = radios; mail = mail; stations = stations; journal = journal })
+    → numbers_at (big 2 n ++ (big 4 rules ++ (big 4 radios ++ (big 4 mail ++ (big 4 stations ++ (big 4 journal ++ rest)))))) ≡ Some
+    (record { number = n; rules = rules; radios = radios; mail = mail; stations = stations; journal = journal })
 unfolding numbers_at
 stated_again n rules radios mail stations journal rest nl rl dl ml sl jl =
     rw (number_again 2 n (big 4 rules ++ (big 4 radios ++ (big 4 mail ++ (big 4 stations ++ (big 4 journal ++ rest))))) nl)
@@ -88,7 +100,10 @@ stated_again n rules radios mail stations journal rest nl rl dl ml sl jl =
     (rw (number_again 4 journal rest jl) refl)))))
 
 abbrev pub after_name : Layout → List ℕ → List ℕ
-after_name layout rest = big 2 layout_number ++ (big 4 layout.limits.rules ++ (big 4 layout.limits.radios ++ (big 4 layout.limits.mail ++ (big 4 layout.limits.stations ++ (big 4 layout.journal ++ rest)))))
+after_name layout rest =
+    big 2 layout_number ++
+    (big 4 layout.limits.rules ++
+    (big 4 layout.limits.radios ++ (big 4 layout.limits.mail ++ (big 4 layout.limits.stations ++ (big 4 layout.journal ++ rest)))))
 
 pub label_parts : (layout : Layout) (rest : List ℕ) → label_text layout ++ rest ≡ name ++ after_name layout rest
 unfolding label_text
@@ -125,7 +140,8 @@ label_length layout = simp (length-append, length-big) refl
 
 -- ---- what the calls that make limits and a layout answer
 
-no_limits : (rules radios mail stations : ℕ) (may : Bool) (is : may ≡ true → AreLimits rules radios mail stations) → (AreLimits rules radios mail stations → ⊥) → limits_by rules radios mail stations may is ≡ None
+no_limits : (rules radios mail stations : ℕ) (may : Bool) (is : may ≡ true → AreLimits rules radios mail stations) →
+    (AreLimits rules radios mail stations → ⊥) → limits_by rules radios mail stations may is ≡ None
 no_limits rules radios mail stations true is none = absurd (none (is refl))
 no_limits rules radios mail stations false is none = refl
 
@@ -144,7 +160,8 @@ pub layout_made_of : (limits : Limits) (journal : ℕ) (o : Option Layout) → (
 layout_made_of limits journal None fits value = no_layout limits journal (is_half_size journal) (half_size_passes journal) (λ are. false≢true (fits are))
 layout_made_of limits journal (Some l) fits value = (λ i. layout_of (sym value.0 i) (sym value.1 i)) ∙ layout_again l
 
-pub stated_made : (t : LabelNumbers) (o : Option Limits) (limits : Limits) (made : Option Layout) → t.number ≡ 1 → limits_of t.rules t.radios t.mail t.stations ≡ o → o ≡ Some limits → layout_of limits t.journal ≡ made → made ≡ layout_of_numbers t
+pub stated_made : (t : LabelNumbers) (o : Option Limits) (limits : Limits) (made : Option Layout) → t.number ≡ 1 →
+    limits_of t.rules t.radios t.mail t.stations ≡ o → o ≡ Some limits → layout_of limits t.journal ≡ made → made ≡ layout_of_numbers t
 stated_made t o limits made number first is second =
     let go = λ (l : Limits). layout_of l t.journal in
     let one : layout_of_numbers t ≡ (limits_of t.rules t.radios t.mail t.stations >>= go) = rw number refl in

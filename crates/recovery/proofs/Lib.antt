@@ -26,6 +26,7 @@ pub mod Lived
 pub mod CutShort
 mod FirstDamage
 mod Remains
+mod Later
 mod Events
 pub mod Determined
 mod InCall

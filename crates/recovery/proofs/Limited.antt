@@ -16,6 +16,7 @@ module _ {A B : Type 0} where
   pub step_limits : (s t : State) (c : Asked A) (reply : Reply B) → (t, reply) ≡ step s c → t.registered.limits ≡ s.registered.limits
   step_limits s t c reply is = ap (λ x. x.0.registered.limits) is ∙ limits_by s (step {B = B} s c).0 c (step {B = B} s c).1 (says B s c)
 
-  pub result_limits : {E : Type 0} (s t : State) (c : Asked A) (result : Result (Reply B) E) → IfOk result (λ reply. (t, reply) ≡ step s c) → OnErr result (t ≡ s) → t.registered.limits ≡ s.registered.limits
+  pub result_limits : {E : Type 0} (s t : State) (c : Asked A) (result : Result (Reply B) E) → IfOk result (λ reply. (t, reply) ≡ step s c) →
+      OnErr result (t ≡ s) → t.registered.limits ≡ s.registered.limits
   result_limits s t c (Ok reply) ok err = step_limits s t c reply ok
   result_limits s t c (Err e) ok err = ap (λ (u : State). u.registered.limits) err

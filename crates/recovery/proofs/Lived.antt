@@ -2,7 +2,7 @@
 use Rattle.std.proofs.Common.{◌≡◌, inl, inr, ℕ, Bool, true, false, List, [], ◌∷◌, ◌++◌, Ok, refl, sym, ap, subst, ◌∙◌, arith}
 use Rattle.std.specs.Prelude.{◌⊎◌, Result}
 use Rattle.std.proofs.lemmas.List.{append-nil}
-use mathlib.Core.Bool.{false≢true}
+use Rattle.base.proofs.Bools.{not_both}
 use Rattle.sector_disk.specs.Disk.{View, IsImageOf, IsSound}
 use Rattle.sector_disk.specs.Run.{LeavesOnly}
 use Rattle.sector_disk.specs.Memory.{IsRestarted, memory_view}
@@ -22,14 +22,13 @@ use Rattle.recovery.proofs.Lasting.{none_lost_made_on_disk, none_lost_on_disk}
 use Rattle.recovery.proofs.Ranged.{opens_ranged}
 use Rattle.recovery.proofs.Stored.{stored_opens}
 use Rattle.recovery.specs.declared.fault.StoreFault.{StoreFault}
-use Rattle.recovery.specs.Lives.{Closed, Answered, Event, IsCall, HasAccepted, HasOpened, LastsInStore, ComesBack, IsStoredIn, StoreView, Lasts, LosesNoMessage, IsLife, Open, Phase, Unanswered, answers, begins, stopped, disk_of, fails, closes, goes_on, opens_not, opens_to, stops, stops_in, nothing}
+use Rattle.recovery.specs.Lives.{Closed, Answered, Event, IsCall, HasAccepted, HasOpened, LastsInStore, ComesBack, IsStoredIn, StoreView, Lasts}
+use Rattle.recovery.specs.Lives.{LosesNoMessage, IsLife, Open, Phase, Unanswered, answers, begins, stopped, disk_of, fails, closes, goes_on}
+use Rattle.recovery.specs.Lives.{opens_not, opens_to, stops, stops_in, nothing}
 
 either : (b : Bool) → (b ≡ true) ⊎ (b ≡ false)
 either true = inl refl
 either false = inr refl
-
-not_both : (b : Bool) → b ≡ true → b ≡ false → ⊥
-not_both b t f = false≢true (sym f ∙ t)
 
 module _ {A : Type 0} (base : State) (events : List (Event A)) where
   -- ---- what is kept of one event more
@@ -40,7 +39,8 @@ module _ {A : Type 0} (base : State) (events : List (Event A)) where
   without : (cs : List (Asked A)) (image : List (List ℕ)) → Lasts A base events image → Lasts A base (Unanswered cs ∷ events) image
   without cs image is = record { state = is.state; kept = is.kept; are = inl is.are; history = is.history; reopens = is.reopens }
 
-  module _ {D : Type 0} (old new : StoreView A D) (cs : List (Asked A)) (holds : LastsInStore A base events old) (history : IsHistory old.register cs) (made : new.register ≡ after old.register cs) where
+  module _ {D : Type 0} (old new : StoreView A D) (cs : List (Asked A)) (holds : LastsInStore A base events old) (history : IsHistory old.register cs)
+      (made : new.register ≡ after old.register cs) where
     more_history : IsHistory base (holds.kept ++ cs)
     more_history = history-append base holds.kept cs holds.history (subst (λ (s : State). IsHistory s cs) holds.made history)
 
@@ -54,8 +54,17 @@ module _ {A : Type 0} (base : State) (events : List (Event A)) where
     unanswered = record { state = holds.state; kept = holds.kept ++ cs; are = inr (holds.kept, holds.are, refl); history = more_history; made = more_made }
 
 -- an image that opens to the store's register
-image_opens : {A D : Type 0} (base : State) (events : List (Event A)) (store : StoreView A D) (image : List (List ℕ)) → LastsInStore A base events store → OpensTo A store.register image → Lasts A base events image
-image_opens {A} base events store image lasts opens = record { state = lasts.state; kept = lasts.kept; are = lasts.are; history = lasts.history; reopens = subst (λ (s : State). OpensTo A s image) lasts.made opens }
+image_opens : {A D : Type 0} (base : State) (events : List (Event A)) (store : StoreView A D) (image : List (List ℕ)) →
+    LastsInStore A base events store → OpensTo A store.register image → Lasts A base events image
+image_opens {A} base events store image lasts opens =
+    record {
+      state = lasts.state;
+      kept = lasts.kept;
+      are = lasts.are;
+      history = lasts.history;
+      reopens =
+          subst (λ (s : State). OpensTo A s image) lasts.made opens;
+    }
 
 ok_is : (x y : Opening) → ◌≡◌ {A = Result Opening StoreFault} (Ok x) (Ok y) → x ≡ y
 ok_is x y e = cc
@@ -93,10 +102,13 @@ module _ {A D : Type 0} (view : D → View) (sound : (disk : D) → (view disk).
   module _ (events : List (Event A)) (old new : StoreView A D) (cs : List (Asked A)) (is : Invariant events (Open old)) (done : HasAccepted A view old new cs) where
     -- a broken store does nothing
     nothing_within : old.broken ≡ true → Within (Unanswered cs ∷ events) old.disk new.disk
-    nothing_within broken = subst (λ (k : StoreView A D). Within (Unanswered cs ∷ events) old.disk k.disk) (sym (done.broken broken)) (now_alone view sound old.disk (Lasts A base (Unanswered cs ∷ events)) is.here.honest (λ image here. without base events cs image (is.here.each image here)))
+    nothing_within broken = subst (λ (k : StoreView A D). Within (Unanswered cs ∷ events) old.disk k.disk) (sym (done.broken broken))
+        (now_alone view sound old.disk (Lasts A base (Unanswered cs ∷ events)) is.here.honest
+        (λ image here. without base events cs image (is.here.each image here)))
 
     nothing_after : old.broken ≡ true → InEach (view new.disk) (Lasts A base (Unanswered cs ∷ events))
-    nothing_after broken = subst (λ (k : StoreView A D). InEach (view k.disk) (Lasts A base (Unanswered cs ∷ events))) (sym (done.broken broken)) (λ image here. without base events cs image (is.here.each image here))
+    nothing_after broken = subst (λ (k : StoreView A D). InEach (view k.disk) (Lasts A base (Unanswered cs ∷ events))) (sym (done.broken broken))
+        (λ image here. without base events cs image (is.here.each image here))
 
     module _ (whole : old.broken ≡ false) where
       stored : IsStoredIn A view old
@@ -116,7 +128,8 @@ module _ {A D : Type 0} (view : D → View) (sound : (disk : D) → (view disk).
       done_within image left = one_of image (leaves.each image left)
 
       done_after : InEach (view new.disk) (Lasts A base (Unanswered cs ∷ events))
-      done_after = since_now view sound old.disk new.disk (Lasts A base (Unanswered cs ∷ events)) done.honest (record { later = leaves.later; each = done_within; before = λ t image le left. before_by image (leaves.before t image le left) })
+      done_after = since_now view sound old.disk new.disk (Lasts A base (Unanswered cs ∷ events)) done.honest
+          (record { later = leaves.later; each = done_within; before = λ t image le left. before_by image (leaves.before t image le left) })
         where
           before_by : {P : Type 0} (image : List (List ℕ)) → P ⊎ OpensToEither A old.register new.register image → P ⊎ Lasts A base (Unanswered cs ∷ events) image
           before_by image (inl was) = inl was
@@ -220,10 +233,19 @@ module _ {A D : Type 0} (view : D → View) (sound : (disk : D) → (view disk).
       subst IsState now.same (opens_ranged A now.opening (view disk).reads (record { each = left.whole }) now.opens).state
 
   lived : (events : List (Event A)) (phase : Phase A D) → IsLife A view base events phase → Invariant events phase
-  lived events phase (begins disk honest each) = record { here = record { honest = honest; each = λ image here. record { state = begun disk honest each; kept = []; are = refl; history = tt; reopens = each image here } }; store = tt }
+  lived events phase (begins disk honest each) =
+      record {
+        here = record {
+          honest = honest;
+          each = λ image here.
+              record { state = begun disk honest each; kept = []; are = refl; history = tt; reopens = each image here };
+        };
+        store = tt;
+      }
   lived events phase (goes_on before old new event life goes) = after_call before old new event (lived before old life) goes
   lived events phase (stops before old new event image disk life goes left is) = back (stopped event ∷ before) image disk is (within_call before old new event (lived before old life) goes image left)
-  lived events phase (stops_in before old new cs image disk life done whole known is) = back (Unanswered cs ∷ before) image disk is (one_of before old new cs (lived before (Open old) life) done whole image known)
+  lived events phase (stops_in before old new cs image disk life done whole known is) =
+      back (Unanswered cs ∷ before) image disk is (one_of before old new cs (lived before (Open old) life) done whole image known)
 
   pub life_lasts : (events : List (Event A)) (phase : Phase A D) → IsLife A view base events phase → InEach (view (disk_of phase)) (Lasts A base events)
   life_lasts events phase life = (lived events phase life).here.each
@@ -272,4 +294,5 @@ pub crashed : {A M : Type 0} (base : State) (events : List (Event A)) (old new :
 crashed base events old new image restarted life =
     let honest = life_honest memory_view base events (Closed old) life in
     stops events (Closed old) (Closed old) (Answered []) (memory_view new).reads new life (nothing (Closed old))
-    ((memory_sound old honest).counts_now (memory_view old).moment (memory_view new).reads (omega arith) (image honest)) (record { honest = restarted.honest honest; reads = refl; durable = restarted.durable })
+    ((memory_sound old honest).counts_now (memory_view old).moment (memory_view new).reads (omega arith) (image honest))
+    (record { honest = restarted.honest honest; reads = refl; durable = restarted.durable })

@@ -1,5 +1,5 @@
 -- What an image on a side opens to.
-use Rattle.std.proofs.Common.{◌≡◌, ◌⊎◌, inl, inr, ℕ, List, ◌++◌, length, Result, Ok, Err, refl, ap, ◌∙◌}
+use Rattle.std.proofs.Common.{◌≡◌, ◌⊎◌, inl, inr, ℕ, ◌+◌, List, ◌++◌, length, Result, Ok, Err, refl, subst, ap, ◌∙◌, append_assoc}
 use Rattle.sector_disk.specs.declared.record.Call.{Call}
 use Rattle.image_rows.specs.Rows.{rows_of}
 use Rattle.gated_journal.specs.declared.form.Form.{Form}
@@ -14,23 +14,34 @@ use Rattle.checkpoint.specs.OnSide.{Base, Held, IsInSlot, IsOnSide, slot_form, s
 use Rattle.checkpoint.proofs.Apart.{lies}
 use Rattle.checkpoint.proofs.Epochs.{slot_has_epoch}
 use Rattle.recovery.specs.Opens.{base_in, opening, opens, opens_by, placed, played_by}
-use Rattle.recovery.specs.Opening.{AreGoodSoFar}
+use Rattle.recovery.specs.Opening.{AreGoodSoFar, HasReadAgain, IsCutShort}
 use Rattle.recovery.specs.OpensTo.{commands_of}
 use Rattle.recovery.proofs.Labelled.{label_read}
 use Rattle.recovery.proofs.Sided.{side_found}
 use Rattle.recovery.proofs.Played.{history_played}
 
+-- some calls, and then others
+pub called_on : (old mid new first second : List Call) → mid ≡ old ++ first → new ≡ mid ++ second → new ≡ old ++ (first ++ second)
+called_on old mid new first second were is = is ∙ ap (λ (some : List Call). some ++ second) were ∙ append_assoc old first second
+
 base_found : (layout : Layout) (s : Side) (base : Base) (image : List (List ℕ)) → IsInSlot layout s base image → base_in layout s image ≡ Ok base
 unfolding base_in
 base_found layout s base image is = ap (placed (slot_at layout s)) is
 
--- where memory ran out after the rows: the calls are those that read them, or the records are good too
-pub so_far : (A : Type 0) (layout : Layout) (s : Side) (base : Base) (image : List (List ℕ)) (old mid new : List Call) → base_in layout s image ≡ Ok base → mid ≡ old ++ image_reads (slot_at layout s) base
-    → (new ≡ mid) ⊎ HasRecords A (slot_form layout s image) base.1.count image (half_at layout s) (half_end layout s) → AreGoodSoFar A layout s image new
+-- where memory ran out after the rows: the calls are those that read them, or the records are good too, and accepted as far as they were played
+pub so_far : (A : Type 0) (layout : Layout) (s : Side) (base : Base) (image : List (List ℕ)) (old mid new : List Call) →
+    base_in layout s image ≡ Ok base → mid ≡ old ++ image_reads (slot_at layout s) base
+    → (new ≡ mid) ⊎ ((records : HasRecords A (slot_form layout s image) base.1.count image (half_at layout s) (half_end layout s))
+    × IsCutShort base.1 records.0.0 (HasReadAgain mid new (half_at layout s) (records.0.1 + 1)))
+    → AreGoodSoFar A layout s image old new
 unfolding base_in
-so_far A layout s base image old mid new rows calls (inr records) = inr (record { base = base; rows = rows; records = records })
+so_far A layout s base image old mid new rows calls (inr good) = inr (record {
+  base = base;
+  rows = rows;
+  records = good.0;
+  cut = subst (λ (some : List Call). IsCutShort base.1 good.0.0.0 (HasReadAgain some new (half_at layout s) (good.0.0.1 + 1))) calls good.1;
+})
 so_far A layout s base image old mid new rows calls (inl none) = inl (record {
-  before = old;
   read = length (rows_of base.0 base.1);
   last = none ∙ calls;
   good = λ place bad. absurd (no_bad (slot_in layout s image) base place rows bad);

@@ -64,7 +64,8 @@ module _ (image : List (List ℕ)) (are : AreSectors image) where
     abbrev Mine : Entry A → Type 0
     Mine entry = All IsCommand entry.1
 
-    entries_is : (entry : Entry A) (half : Half A) (entries : List (Entry A)) (gate : ℕ) → with_prefix (entry ∷ []) half ≡ Ok (entries, gate) → (rest : List (Entry A)) × (half ≡ Ok (rest, gate)) × (entries ≡ entry ∷ rest)
+    entries_is : (entry : Entry A) (half : Half A) (entries : List (Entry A)) (gate : ℕ) → with_prefix (entry ∷ []) half ≡ Ok (entries, gate) →
+        (rest : List (Entry A)) × (half ≡ Ok (rest, gate)) × (entries ≡ entry ∷ rest)
     entries_is entry (Ok half) entries gate e =
         let pair : ◌≡◌ {A = List (Entry A) × ℕ} (entry ∷ half.0, half.1) (entries, gate) = cc in
         (half.0, ap (λ (x : List (Entry A) × ℕ). Ok (half.0, x.1)) pair, sym (ap (λ (x : List (Entry A) × ℕ). x.0) pair))
@@ -80,18 +81,22 @@ module _ (image : List (List ℕ)) (are : AreSectors image) where
     unfolding half_from
     half_commands zero form before at end entries gate e = none_mine at entries gate e
     half_commands (suc fuel) form before at end entries gate e =
-        elim (record_at {A = A} form before image at end) as (λ r. record_at form before image at end ≡ r → half_on at r (λ x. half_from fuel form (before + length x.0) image x.1 end) ≡ Ok (entries, gate) → All Mine entries) [
+        elim (record_at {A = A} form before image at end) as
+        (λ r. record_at form before image at end ≡ r → half_on at r (λ x. half_from fuel form (before + length x.0) image x.1 end) ≡ Ok
+        (entries, gate) → All Mine entries) [
           | Err fault ↦ λ is f. absurd cc
           | Ok o ↦ λ is f. on (λ x rest. half_commands fuel form (before + length x.0) x.1 end rest gate) o is f
         ] refl e
       where
-        on : ((x : List (Asked A) × ℕ) (rest : List (Entry A)) → half_from fuel form (before + length x.0) image x.1 end ≡ Ok (rest, gate) → All Mine rest) → (o : Option (List (Asked A) × ℕ)) → record_at form before image at end ≡ Ok o
+        on : ((x : List (Asked A) × ℕ) (rest : List (Entry A)) → half_from fuel form (before + length x.0) image x.1 end ≡ Ok (rest, gate) →
+            All Mine rest) → (o : Option (List (Asked A) × ℕ)) → record_at form before image at end ≡ Ok o
             → half_on at (Ok o) (λ x. half_from fuel form (before + length x.0) image x.1 end) ≡ Ok (entries, gate) → All Mine entries
         on go None is f = none_mine at entries gate f
         on go (Some x) is f =
             let rest = entries_is (at + 1, x.0) (half_from fuel form (before + length x.0) image x.1 end) entries gate f in
             let there = opened form before image at end x is in
-            let fit = (record_taken form before (data_from image (at + 1) (stated_size form (sector image (at + 1)))) x.0 (data_bytes (stated_size form (sector image (at + 1))) (at + 1)) there.read).fit in
+            let fit = (record_taken form before (data_from image (at + 1) (stated_size form (sector image (at + 1)))) x.0
+            (data_bytes (stated_size form (sector image (at + 1))) (at + 1)) there.read).fit in
             subst (All Mine) (sym rest.2) (All-cons Mine (at + 1, x.0) rest.0 fit.each (go x rest.0 rest.1))
 
 -- ---- the state after them
@@ -118,7 +123,8 @@ opens_ranged A o image are e =
     let is = following A o image e in
     let first = half_at o.layout o.side in
     let end = half_end o.layout o.side in
-    let base = image_is_spelt o.layout.limits (sectors_from image (slot_at o.layout o.side) (slot_size o.layout)) o.epoch is.base (slot_bytes image are (slot_size o.layout) (slot_at o.layout o.side)) is.slot in
+    let base = image_is_spelt o.layout.limits (sectors_from image (slot_at o.layout o.side) (slot_size o.layout)) o.epoch is.base
+    (slot_bytes image are (slot_size o.layout) (slot_at o.layout o.side)) is.slot in
     let commands = all_commands is.entries (half_commands image are (end - first) (slot_form o.layout o.side image) is.base.count first end is.entries o.next is.half) in
     let after_is = ranged_after o.layout.limits is.base (commands_of is.entries) commands (record { state = base.0; ranges = base.1; under = base.2 }) in
     subst (IsRanged o.layout.limits) (sym is.made) after_is

@@ -1,8 +1,9 @@
 -- A record in the journal and, where a checkpoint is under way, in that of the other half: it fits both, and a stop leaves
 -- the register with it or without it.
-use Rattle.std.proofs.Common.{take, ◌≡◌, ◌⊎◌, inl, inr, ℕ, ◌+◌, ◌-◌, ◌*◌, ◌<◌, ◌≤◌, List, [], ◌∷◌, ◌++◌, length, slice_index, None, Some, Option, IfSome, true, false, Result, Ok, Err, OnOk, refl, sym, subst, ap, ◌∙◌, arith}
+use Rattle.std.proofs.Common.{take, ◌≡◌, ◌⊎◌, inl, inr, ℕ, ◌+◌, ◌-◌, ◌*◌, ◌<◌, ◌≤◌, List, [], ◌∷◌, ◌++◌, length, slice_index, None, Some, Option}
+use Rattle.std.proofs.Common.{IfSome, true, false, Result, Ok, Err, OnOk, refl, sym, subst, ap, ◌∙◌, arith}
 use Rattle.std.specs.Borrow.{Bor}
-use Rattle.std.specs.Prelude.{IfErr, is_err, is_some}
+use Rattle.std.specs.Prelude.{is_err, is_some}
 use Rattle.std.proofs.lemmas.Grind.{flat_map-append}
 use Rattle.std.proofs.lemmas.List.{append-nil, length-map}
 use Rattle.sector_disk.specs.Disk.{IsSound, View, sector}
@@ -55,14 +56,16 @@ head_most Numbered = omega arith
 pub one_more : {B : Type 0} (A : Type 0) (x y : Place) (cs : List (Bor (Asked B))) → data_size (text_at A y cs) ≤ data_size (text_at A x cs) + 1
 one_more A x y cs = omega (arith, given_size A x.form x.count cs, given_size A y.form y.count cs, head_least x.form, head_most y.form)
 
-module _ {A B : Type 0} (layout : Layout) (side : Side) (epoch : ℕ) (x : Place) (count : ℕ) (it : Ongoing A) (first_is : x.first ≡ half_at layout side) (end_is : x.end ≡ half_end layout side) (belongs : BelongsTo layout side epoch x count it)
+module _ {A B : Type 0} (layout : Layout) (side : Side) (epoch : ℕ) (x : Place) (count : ℕ) (it : Ongoing A)
+    (first_is : x.first ≡ half_at layout side) (end_is : x.end ≡ half_end layout side) (belongs : BelongsTo layout side epoch x count it)
     (cs : List (Bor (Asked B))) (fits : data_size (text_at A x cs) ≤ room_of x) where
   -- so it fits the other half too
   pub fits_other : data_size (text_at A it.journal cs) ≤ room_of it.journal
   fits_other = omega (arith, one_more A x it.journal cs, some_sectors A x cs, first_is, end_is, belongs.first, belongs.end, belongs.up, belongs.ahead, fits)
 
   -- and all holds after it
-  pub belongs_after : (now then : Place) (also : Option (Ongoing A)) → now ≡ record { first = x.first; end = x.end; next = x.next + data_size (text_at A x cs) + 1; form = x.form; count = x.count + length cs }
+  pub belongs_after : (now then : Place) (also : Option (Ongoing A)) →
+      now ≡ record { first = x.first; end = x.end; next = x.next + data_size (text_at A x cs) + 1; form = x.form; count = x.count + length cs }
       → then ≡ record { first = it.journal.first; end = it.journal.end; next = it.journal.next + data_size (text_at A it.journal cs) + 1; form = it.journal.form; count = it.journal.count + length cs }
       → also ≡ Some (record it { journal = then }) → it.journal.count + length cs ≤ count → IfSome also (λ is. BelongsTo layout side epoch now count is)
   belongs_after now then also now_is then_is also_is counts = rw (also_is, now_is, then_is) (record {
@@ -80,7 +83,9 @@ module _ {A B : Type 0} (layout : Layout) (side : Side) (epoch : ℕ) (x : Place
 
 -- ---- the places after it
 
-pub place_after : {B : Type 0} (A : Type 0) (x : Place) (cs : List (Bor (Asked B))) (now : Place) → now ≡ record { first = x.first; end = x.end; next = x.next + data_size (text_at A x cs) + 1; form = x.form; count = x.count + length cs } → now ≡ following x (given A cs)
+pub place_after : {B : Type 0} (A : Type 0) (x : Place) (cs : List (Bor (Asked B))) (now : Place) →
+    now ≡ record { first = x.first; end = x.end; next = x.next + data_size (text_at A x cs) + 1; form = x.form; count = x.count + length cs } →
+    now ≡ following x (given A cs)
 place_after A x cs now is =
     let made : ℕ → Place = λ n. record { first = x.first; end = x.end; next = x.next + data_size (text_at A x cs) + 1; form = x.form; count = x.count + n } in
     is ∙ ap made (sym (given_count A cs))
@@ -93,7 +98,8 @@ also_after {A} it cs ongoing also then ongoing_is then_is also_is =
     rw ongoing_is (also_is ∙ ap put (place_after A it.journal cs then then_is))
 
 -- the two halves share no sector
-pub apart : (layout : Layout) (side : Side) (x y : Place) → x.first ≡ half_at layout side → x.end ≡ half_end layout side → y.first ≡ half_at layout (other_of side) → y.end ≡ half_end layout (other_of side) → (x.end ≤ y.first) ⊎ (y.end ≤ x.first)
+pub apart : (layout : Layout) (side : Side) (x y : Place) → x.first ≡ half_at layout side → x.end ≡ half_end layout side →
+    y.first ≡ half_at layout (other_of side) → y.end ≡ half_end layout (other_of side) → (x.end ≤ y.first) ⊎ (y.end ≤ x.first)
 apart layout side.A x y x_first x_end y_first y_end = inl (omega (arith, x_end, y_first))
 apart layout side.B x y x_first x_end y_first y_end = inr (omega (arith, x_first, y_end))
 
@@ -104,7 +110,8 @@ pub record IsHalvesTorn (layout : Layout) (was image : List (List ℕ)) : Type 0
   pub prefix : (k : ℕ) → k < 3 + 2 * slot_size layout → sector image k ≡ sector was k
 
 module _ {A : Type 0} (layout : Layout) (s : Side) (form : Form) (base : Base) where
-  pub halves_on_side : (held more : Held A) (was image : List (List ℕ)) → IsOnSide layout s form base held was → IsHalvesTorn layout was image → IsInHalf layout s form base more image → more.1 < half_end layout s → IsOnSide layout s form base more image
+  pub halves_on_side : (held more : Held A) (was image : List (List ℕ)) → IsOnSide layout s form base held was → IsHalvesTorn layout was image →
+      IsInHalf layout s form base more image → more.1 < half_end layout s → IsOnSide layout s form base more image
   halves_on_side held more was image holds torn half gate =
       let places = lies layout s in
       let others = lies layout (other_of s) in
@@ -112,7 +119,8 @@ module _ {A : Type 0} (layout : Layout) (s : Side) (form : Form) (base : Base) w
         room = rw torn.count holds.room;
         label = ap (λ (bytes : List ℕ). take label_size bytes) (torn.prefix label_at (omega arith)) ∙ holds.label;
         root = ap (λ (bytes : List ℕ). slice_index bytes 0) (torn.prefix (root_at s) (omega (arith, places.root, places.slots))) ∙ holds.root;
-        below = below_same layout (other_of s) base.0 was image (torn.prefix (root_at (other_of s)) (omega (arith, others.root, others.slots))) (torn.prefix (slot_at layout (other_of s)) (omega (arith, others.some, others.slots))) holds.below;
+        below = below_same layout (other_of s) base.0 was image (torn.prefix (root_at (other_of s)) (omega (arith, others.root, others.slots)))
+            (torn.prefix (slot_at layout (other_of s)) (omega (arith, others.some, others.slots))) holds.below;
         slot = ap (slot_of layout.limits) (sectors_same was image (slot_at layout s) (slot_size layout) (λ k low high. torn.prefix k (omega (arith, high, places.slots)))) ∙ holds.slot;
         form_is = ap stated_form (torn.prefix (slot_at layout s) (omega (arith, places.some, places.slots))) ∙ holds.form_is;
         half = half;
@@ -138,7 +146,8 @@ module _ {A : Type 0} (base s : State) (entries : List (Entry A)) (at : ℕ) (cs
 
 -- ---- a record is added to both halves
 
-module _ (A : Type 0) (layout : Layout) (side : Side) (epoch : ℕ) (x : Place) (first_is : x.first ≡ half_at layout side) (end_is : x.end ≡ half_end layout side) (within : x.next < half_end layout side)
+module _ (A : Type 0) (layout : Layout) (side : Side) (epoch : ℕ) (x : Place) (first_is : x.first ≡ half_at layout side)
+    (end_is : x.end ≡ half_end layout side) (within : x.next < half_end layout side)
     (count : ℕ) (it : Ongoing A) (belongs : BelongsTo layout side epoch x count it) (state_is : IsState it.register)
     (s : State) (old : View) (stored : IsStored A layout side epoch x s old) (also : IsOngoing A layout side epoch it s old) where
   abbrev o : Side
@@ -175,7 +184,9 @@ module _ (A : Type 0) (layout : Layout) (side : Side) (epoch : ℕ) (x : Place) 
     Left = LeavesBoth old x it.journal stored.base.count it.register.count stored.entries also.entries last other
 
     -- outside both halves an image is as one before
-    prefix : (was image : List (List ℕ)) → ((k : ℕ) → (k < x.first) ⊎ (x.first + (x.end - x.first) ≤ k) → (k < it.journal.first) ⊎ (it.journal.first + (it.journal.end - it.journal.first) ≤ k) → sector image k ≡ sector was k)
+    prefix : (was image : List (List ℕ)) →
+        ((k : ℕ) → (k < x.first) ⊎ (x.first + (x.end - x.first) ≤ k) → (k < it.journal.first) ⊎
+        (it.journal.first + (it.journal.end - it.journal.first) ≤ k) → sector image k ≡ sector was k)
         → (k : ℕ) → k < 3 + 2 * slot_size layout → sector image k ≡ sector was k
     prefix was image same k lt =
         let places = lies layout side in
@@ -183,21 +194,23 @@ module _ (A : Type 0) (layout : Layout) (side : Side) (epoch : ℕ) (x : Place) 
         let first = belongs.first in
         same k (inl (omega (arith, lt, first_is, places.halves))) (inl (omega (arith, lt, first, others.halves)))
 
-    image_opens : (entries : List (Entry A)) (gate : ℕ) (image : List (List ℕ)) → Left image → half_of x.form stored.base.count image x.first x.end ≡ Ok (entries, gate) → IsOnSide layout side x.form (epoch, stored.base) (entries, gate) image
+    image_opens : (entries : List (Entry A)) (gate : ℕ) (image : List (List ℕ)) → Left image →
+        half_of x.form stored.base.count image x.first x.end ≡ Ok (entries, gate) →
+        IsOnSide layout side x.form (epoch, stored.base) (entries, gate) image
     image_opens entries gate image leaves half =
         let was = leaves.elsewhere.0 in
         let there : half_of x.form stored.base.count image (half_at layout side) (half_end layout side) ≡ Ok (entries, gate) = rw (first_is, end_is) at half in
         halves_on_side layout side x.form (epoch, stored.base) (stored.entries, x.next) (entries, gate) was image (stored.each was leaves.elsewhere.1)
-        (record { count = leaves.elsewhere.2.count; prefix = prefix was image leaves.elsewhere.2.others }) there (half_below x.form stored.base.count image (half_at layout side) (half_end layout side) entries gate some there)
-
-    longer : List (Entry A)
-    longer = stored.entries ++ last ∷ []
+        (record { count = leaves.elsewhere.2.count; prefix = prefix was image leaves.elsewhere.2.others }) there
+        (half_below x.form stored.base.count image (half_at layout side) (half_end layout side) entries gate some there)
 
     -- each image opens to the old register or for the new one, by the side that counts
     left_either : (image : List (List ℕ)) → Left image → OpensToEither A s (after s cs) image
     left_either image leaves = elim (leaves.half) [
-      | inl without ↦ inl (state_opens A layout side x.form (epoch, stored.base) (stored.entries, without.0) s image (image_opens stored.entries without.0 image leaves without.1) stored.accepted stored.made)
-      | inr with ↦ inr (state_opens A layout side x.form (epoch, stored.base) (stored.entries ++ last ∷ [], with.0) (after s cs) image (image_opens (stored.entries ++ last ∷ []) with.0 image leaves with.1)
+      | inl without ↦ inl (state_opens A layout side x.form (epoch, stored.base) (stored.entries, without.0) s image
+          (image_opens stored.entries without.0 image leaves without.1) stored.accepted stored.made)
+      | inr with ↦ inr (state_opens A layout side x.form (epoch, stored.base) (stored.entries ++ last ∷ [], with.0) (after s cs) image
+          (image_opens (stored.entries ++ last ∷ []) with.0 image leaves with.1)
           (more_accepted stored.base s stored.entries (x.next + 1) cs stored.accepted stored.made history) (more_made stored.base s stored.entries (x.next + 1) cs stored.accepted stored.made))
     ]
 
@@ -240,7 +253,9 @@ module _ (A : Type 0) (layout : Layout) (side : Side) (epoch : ℕ) (x : Place) 
               root = λ image left.
                   let one = left_each old new Left leaves sound image left in
                   let was = one.elsewhere.0 in
-                  closed_as (sector was (root_at (other_of side))) (sector image (root_at (other_of side))) (prefix was image one.elsewhere.2.others (root_at (other_of side)) (omega (arith, others.root, others.slots))) (also.begun.root was one.elsewhere.1);
+                  closed_as (sector was (root_at (other_of side))) (sector image (root_at (other_of side)))
+                  (prefix was image one.elsewhere.2.others (root_at (other_of side)) (omega (arith, others.root, others.slots)))
+                  (also.begun.root was one.elsewhere.1);
               half = λ image left. rw (belongs.first, belongs.end, belongs.form) at (is_also.half image left);
               gate = let within = is_also.within in let end = belongs.end in omega (arith, within, end);
               rows = λ k lt. same_row k lt ∙ also.begun.rows k lt;
@@ -262,8 +277,16 @@ module _ (A : Type 0) (layout : Layout) (side : Side) (epoch : ℕ) (x : Place) 
     all_given : (before : ℕ) → before + length cs ≡ before + length (given A cs)
     all_given before = omega (arith, length-map cs (λ (c : Bor (Asked B)). under A c.now))
 
-    pub kept_both : (new : View) (now then : Place) (with : Option (Ongoing A)) → now ≡ record { first = x.first; end = x.end; next = x.next + data_size (text_at A x cs) + 1; form = x.form; count = x.count + length cs }
-        → then ≡ record { first = it.journal.first; end = it.journal.end; next = it.journal.next + data_size (text_at A it.journal cs) + 1; form = it.journal.form; count = it.journal.count + length cs } → with ≡ Some (record it { journal = then })
+    pub kept_both : (new : View) (now then : Place) (with : Option (Ongoing A)) →
+        now ≡ record { first = x.first; end = x.end; next = x.next + data_size (text_at A x cs) + 1; form = x.form; count = x.count + length cs }
+        → then ≡ record {
+          first = it.journal.first;
+          end = it.journal.end;
+          next = it.journal.next + data_size (text_at A it.journal cs) + 1;
+          form =
+              it.journal.form;
+          count = it.journal.count + length cs;
+        } → with ≡ Some (record it { journal = then })
         → LeavesOnly old new Both → IsSound new
         → ((k : ℕ) → (k < x.first) ⊎ (x.end ≤ k) → (k < it.journal.first) ⊎ (it.journal.end ≤ k) → sector new.reads k ≡ sector old.reads k)
         → IsSettled new now stored.base.count (stored.entries ++ (x.next + 1, given A cs) ∷ []) × IsSettled new then it.register.count (also.entries ++ (it.journal.next + 1, given A cs) ∷ [])
@@ -279,7 +302,10 @@ module _ (A : Type 0) (layout : Layout) (side : Side) (epoch : ℕ) (x : Place) 
         rw (with_is, now_is, then_is) (record {
           stored = subst (λ (t : State). IsStored A layout side epoch (record { first = x.first; end = x.end; next = a; form = x.form; count = c }) t new) (given_after A s cs)
               (stored_more (given A cs) history_given new leaves sound same a b c d (all_given x.count) (all_given it.journal.count) first second);
-          under_way = subst (λ (t : State). IsOngoing A layout side epoch (record it { journal = record { first = it.journal.first; end = it.journal.end; next = b; form = it.journal.form; count = d } }) t new) (given_after A s cs)
+          under_way = subst (λ (t : State).
+              IsOngoing A layout side epoch
+              (record it { journal = record { first = it.journal.first; end = it.journal.end; next = b; form = it.journal.form; count = d } }) t new)
+              (given_after A s cs)
               (ongoing_more (given A cs) history_given new leaves sound same a b c d (all_given x.count) (all_given it.journal.count) first second);
         })
 
@@ -292,10 +318,6 @@ some_of (Some t) is = (t, refl)
 pub ok_part : {T E P : Type 0} (r : Result T E) → is_err r ≡ false → OnOk r P → P
 ok_part (Ok t) is p = p
 ok_part (Err e) is p = absurd cc
-
-pub fault_part : {T E P : Type 0} (Q : E → Type 0) (r : Result T E) → is_err r ≡ true → IfErr r (λ e. Q e × P) → P
-fault_part Q (Ok t) is p = absurd cc
-fault_part Q (Err e) is p = p.1
 
 -- ---- roots lie before both halves
 

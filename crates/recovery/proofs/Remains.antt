@@ -1,5 +1,6 @@
 -- What is left of a side: its rows and records, one after another.
-use Rattle.std.proofs.Common.{◌≡◌, ℕ, suc, ◌+◌, ◌-◌, ◌^◌, ◌<◌, ◌≤◌, Bool, true, false, List, [], ◌∷◌, ◌++◌, length, drop, get_or, replicate, Option, Some, None, Result, Ok, Err, IfErr, IfOk, MatchOption, refl, sym, subst, ap, ◌∙◌, add-one, arith, ltb, unwrap_or}
+use Rattle.std.proofs.Common.{◌≡◌, ℕ, suc, ◌+◌, ◌-◌, ◌^◌, ◌<◌, ◌≤◌, Bool, true, false, List, [], ◌∷◌, ◌++◌, length, drop, get_or, replicate, Option}
+use Rattle.std.proofs.Common.{Some, None, Ok, Err, MatchOption, refl, sym, subst, ap, ◌∙◌, add-one, arith, ltb, unwrap_or}
 use Rattle.std.proofs.Common.{if◌then◌else◌}
 use Rattle.std.proofs.lemmas.List.{drop_all, drop_more}
 use Rattle.std.proofs.lemmas.Bool.{ltb-true}
@@ -17,9 +18,10 @@ use Rattle.image_rows.specs.Loading.{◌>>=◌, Loading, begun, finished, row_ta
 use Rattle.image_rows.specs.Held.{taken_from}
 use Rattle.recovery.specs.declared.damaged.Kind.{Kind}
 use Rattle.recovery.specs.declared.damaged.Kind.TheVariants as kind
-use Rattle.recovery.specs.Rests.{HasHeader, HasNoRest, IsGreaterSide, IsLeft, IsRestOf, Kept, LeadsTo, NothingIsLeft, kept_by, left_in, kept_with, lowered, made_by, made_or, none_kept, rows_kept, rows_stated, run_while, with_row}
+use Rattle.recovery.specs.Rests.{AreLaterOf, HasHeader, HasNoRest, IsGreaterSide, IsLeft, IsRestOf, Kept, LeadsTo, NothingIsLeft, left_in, kept_with}
+use Rattle.recovery.specs.Rests.{lowered, made_by, made_or, none_kept, rows_kept, rows_stated, run_while, with_row}
 use Rattle.recovery.specs.Rests.{closed, left, played, refused, unreadable}
-use Rattle.recovery.specs.Inside.Rests.{HasAtMost, LeadsFrom, kept_of}
+use Rattle.recovery.specs.Inside.Rests.{HasAtMost, LeadsFrom}
 use Rattle.checkpoint.specs.declared.layout.Layout.{Layout}
 use Rattle.checkpoint.specs.declared.side.Side.{Side}
 use Rattle.recovery.specs.declared.rest.LeftOut.{LeftOut}
@@ -28,14 +30,13 @@ use Rattle.checkpoint.specs.Layout.{disk_size, slot_at}
 use Rattle.identity.specs.Packed.{AreBytes}
 use Rattle.recovery.specs.declared.fault.StoreFault.{StoreFault}
 use Rattle.recovery.specs.declared.fault.StoreFault.TheVariants.{BadGeometry, Broken, Damaged, DiskFault, EpochsUsedUp, NoMemory, Unformatted, Unready}
-use Rattle.recovery.specs.Checking.{IsOfCheck}
+use Rattle.recovery.specs.Checking.{IsNoDamage}
 use Rattle.recovery.specs.Damage.{header_of}
 use Rattle.recovery.specs.Label.{layout_in}
 use Rattle.recovery.specs.Opening.{Fails}
 use Rattle.recovery.specs.Opens.{opens}
 use Rattle.gated_journal.specs.declared.place.Place.{Place}
 use Rattle.gated_journal.specs.Settled.{record_in}
-use Rattle.std.specs.Option.{is_some}
 
 -- ---- rows
 
@@ -50,15 +51,6 @@ row_on image slot h k first now new was is =
 pub none_on : (image : List (List ℕ)) (slot : ℕ) (h : Header) (first : Kept) → first ≡ rows_kept image slot h first 0
 unfolding rows_kept
 none_on image slot h first = refl
-
--- a row is kept, or left out
-pub kept_yes : (o : Option Loading) (what : Kind) (l new : Loading) (rows : Header) → true ≡ is_some o → new ≡ unwrap_or o l → kept_of new (with_row rows what) ≡ kept_by (kept_of l rows) what o
-kept_yes None what l new rows is same = absurd cc
-kept_yes (Some m) what l new rows is same = ap (λ (x : Loading). kept_of x (with_row rows what)) same
-
-pub kept_no : (o : Option Loading) (what : Kind) (l new : Loading) (rows : Header) → false ≡ is_some o → new ≡ unwrap_or o l → kept_of new rows ≡ kept_by (kept_of l rows) what o
-kept_no None what l new rows is same = ap (λ (x : Loading). kept_of x rows) same
-kept_no (Some m) what l new rows is same = absurd cc
 
 -- ---- how many rows
 
@@ -86,21 +78,73 @@ lowered_is_row h kept is = by_rules (ltb kept.rules h.rules) refl
     range = is.range
 
     by_served : (b : Bool) → ltb kept.served h.served ≡ b → IsRow (HeaderRow (if b then record h { served = kept.served } else h))
-    by_served true less = record { range = record { some = range.some; most = range.most; count = range.count; rules = range.rules; radios = range.radios; mail = range.mail; served = lower kept.served h.served true less refl range.served }; known = refl }
+    by_served true less =
+        record {
+          range = record {
+            some = range.some;
+            most = range.most;
+            count = range.count;
+            rules = range.rules;
+            radios = range.radios;
+            mail =
+                range.mail;
+            served = lower kept.served h.served true less refl range.served;
+          };
+          known = refl;
+        }
     by_served false less = is
 
     by_mail : (b : Bool) → ltb kept.mail h.mail ≡ b → IsRow (HeaderRow (if b then record h { mail = kept.mail } else (if ltb kept.served h.served then record h { served = kept.served } else h)))
-    by_mail true less = record { range = record { some = range.some; most = range.most; count = range.count; rules = range.rules; radios = range.radios; mail = lower kept.mail h.mail true less refl range.mail; served = range.served }; known = refl }
+    by_mail true less = record {
+      range =
+          record {
+            some = range.some;
+            most = range.most;
+            count = range.count;
+            rules = range.rules;
+            radios = range.radios;
+            mail =
+                lower kept.mail h.mail true less refl range.mail;
+            served = range.served;
+          };
+      known = refl;
+    }
     by_mail false less = by_served (ltb kept.served h.served) refl
 
     by_radios : (b : Bool) → ltb kept.radios h.radios ≡ b → IsRow (HeaderRow (if b then record h { radios = kept.radios } else (if ltb kept.mail h.mail then record h { mail = kept.mail }
         else (if ltb kept.served h.served then record h { served = kept.served } else h))))
-    by_radios true less = record { range = record { some = range.some; most = range.most; count = range.count; rules = range.rules; radios = lower kept.radios h.radios true less refl range.radios; mail = range.mail; served = range.served }; known = refl }
+    by_radios true less =
+        record {
+          range = record {
+            some = range.some;
+            most = range.most;
+            count = range.count;
+            rules = range.rules;
+            radios =
+                lower kept.radios h.radios true less refl range.radios;
+            mail = range.mail;
+            served = range.served;
+          };
+          known = refl;
+        }
     by_radios false less = by_mail (ltb kept.mail h.mail) refl
 
     by_rules : (b : Bool) → ltb kept.rules h.rules ≡ b → IsRow (HeaderRow (if b then record h { rules = kept.rules } else (if ltb kept.radios h.radios then record h { radios = kept.radios }
         else (if ltb kept.mail h.mail then record h { mail = kept.mail } else (if ltb kept.served h.served then record h { served = kept.served } else h)))))
-    by_rules true less = record { range = record { some = range.some; most = range.most; count = range.count; rules = lower kept.rules h.rules true less refl range.rules; radios = range.radios; mail = range.mail; served = range.served }; known = refl }
+    by_rules true less = record {
+      range =
+          record {
+            some = range.some;
+            most = range.most;
+            count = range.count;
+            rules = lower kept.rules h.rules true less refl range.rules;
+            radios =
+                range.radios;
+            mail = range.mail;
+            served = range.served;
+          };
+      known = refl;
+    }
     by_rules false less = by_radios (ltb kept.radios h.radios) refl
 
 -- ---- the first row
@@ -134,13 +178,16 @@ module _ (limits : Limits) (image : List (List ℕ)) (slot : ℕ) (stated : Head
   pub made_now : (n : ℕ) (h : Header) (kept : Kept) (base : ℕ × State) → kept ≡ rows_kept image slot stated (none_kept limits h stated) (rows_stated stated)
       → finished kept.loading ≡ Some base → made (n + 1) h ≡ Some (h, base.1)
   unfolding made_by
-  made_now n h kept base is whole = ap (λ (k : ℕ). made k h) (add-one n) ∙ ap (λ (k : Kept). made_or h (finished k.loading) (made n (lowered h k.rows))) (sym is) ∙ ap (λ (b : Option (ℕ × State)). made_or h b (made n (lowered h kept.rows))) whole
+  made_now n h kept base is whole = ap (λ (k : ℕ). made k h) (add-one n) ∙
+      ap (λ (k : Kept). made_or h (finished k.loading) (made n (lowered h k.rows))) (sym is) ∙
+      ap (λ (b : Option (ℕ × State)). made_or h b (made n (lowered h kept.rows))) whole
 
   -- some have not
   pub made_later : (n : ℕ) (h : Header) (kept : Kept) → kept ≡ rows_kept image slot stated (none_kept limits h stated) (rows_stated stated)
       → finished kept.loading ≡ None → made (n + 1) h ≡ made n (lowered h kept.rows)
   unfolding made_by
-  made_later n h kept is short = ap (λ (k : ℕ). made k h) (add-one n) ∙ ap (λ (k : Kept). made_or h (finished k.loading) (made n (lowered h k.rows))) (sym is) ∙ ap (λ (b : Option (ℕ × State)). made_or h b (made n (lowered h kept.rows))) short
+  made_later n h kept is short = ap (λ (k : ℕ). made k h) (add-one n) ∙ ap (λ (k : Kept). made_or h (finished k.loading) (made n (lowered h k.rows)))
+      (sym is) ∙ ap (λ (b : Option (ℕ × State)). made_or h b (made n (lowered h kept.rows))) short
 
   pub made_never : (h : Header) → made 0 h ≡ None
   unfolding made_by
@@ -159,7 +206,8 @@ module _ {A : Type 0} where
   while_on : (cs : List (Asked A)) (i : ℕ) (c : Asked A) (s : State) → i < length cs → c ≡ get_or cs i c → run_while s (drop i cs) ≡ run_while s (c ∷ drop (i + 1) cs)
   while_on cs i c s lt is = ap (run_while s) (drop_more cs i c lt ∙ ap (λ (d : Asked A). d ∷ drop (i + 1) cs) (sym is))
 
-  pub while_more : (cs : List (Asked A)) (i : ℕ) (c : Asked A) (s t : State) (reply : Reply A) (total : State × Bool) → i < length cs → c ≡ get_or cs i c → (t, reply) ≡ step s c → is_acceptance reply ≡ true → run_while s (drop i cs) ≡ total
+  pub while_more : (cs : List (Asked A)) (i : ℕ) (c : Asked A) (s t : State) (reply : Reply A) (total : State × Bool) → i < length cs →
+      c ≡ get_or cs i c → (t, reply) ≡ step s c → is_acceptance reply ≡ true → run_while s (drop i cs) ≡ total
       → run_while t (drop (i + 1) cs) ≡ total
   unfolding run_while
   while_more cs i c s t reply total lt is step_is accepted so_far =
@@ -168,7 +216,8 @@ module _ {A : Type 0} where
       let one : run_while s (c ∷ drop (i + 1) cs) ≡ run_while t (drop (i + 1) cs) = rw yes (ap (λ (u : State). run_while u (drop (i + 1) cs)) state) in
       sym one ∙ sym (while_on cs i c s lt is) ∙ so_far
 
-  pub while_stops : (cs : List (Asked A)) (i : ℕ) (c : Asked A) (s t : State) (reply : Reply A) (total : State × Bool) → i < length cs → c ≡ get_or cs i c → (t, reply) ≡ step s c → is_acceptance reply ≡ false → run_while s (drop i cs) ≡ total
+  pub while_stops : (cs : List (Asked A)) (i : ℕ) (c : Asked A) (s t : State) (reply : Reply A) (total : State × Bool) → i < length cs →
+      c ≡ get_or cs i c → (t, reply) ≡ step s c → is_acceptance reply ≡ false → run_while s (drop i cs) ≡ total
       → (t, false) ≡ total
   unfolding run_while
   while_stops cs i c s t reply total lt is step_is not_accepted so_far =
@@ -201,15 +250,6 @@ module _ (A : Type 0) (p : Place) (disk : View) (s : State) where
         played p.count p.next s t u commands gate last there (sym ran) (rw (form, end, next, count) at on)
 
 -- ---- sides
-
--- what follows from what a clause says of a value
-pub if_ok_then : {X E : Type 0} {P Q : X → Type 0} (r : Result X E) → IfOk r P → ((x : X) → P x → Q x) → IfOk r Q
-if_ok_then (Ok x) p goes = goes x p
-if_ok_then (Err e) p goes = tt
-
-pub if_err_then : {X E : Type 0} {P Q R : E → Type 0} (r : Result X E) → IfErr r P → IfErr r Q → ((e : E) → P e → Q e → R e) → IfErr r R
-if_err_then (Ok x) p q goes = tt
-if_err_then (Err e) p q goes = goes e p q
 
 -- the row of a header
 header_row : (row : Option Row) (h : Header) → header_of row ≡ Some h → row ≡ Some (HeaderRow h)
@@ -247,17 +287,20 @@ module _ (layout : Layout) (side : Side) (image : List (List ℕ)) where
   on_side (Some x) P mid same h has says = subst (λ (i : List (List ℕ)). P x i) same says
 
 -- what is left of a damaged disk
-pub of_greater : {X : Type 0} (A : Type 0) (image : List (List ℕ)) (at : ℕ) → opens A image ≡ Err (Damaged at) → (layout : Layout) (side : Side) → layout_in image ≡ Ok layout → IsGreaterSide A layout image side
-    → (found : Option X) (side_of : X → Side) (epoch_of : X → ℕ) (out_of : X → LeftOut) (state_of : X → State) (stop_of : X → Option ℕ)
-    → MatchOption found (NothingIsLeft layout side image) (λ x. (side_of x ≡ side) × IsLeft A layout side image (epoch_of x) (out_of x) (state_of x) (stop_of x))
+pub of_greater : {X : Type 0} (A : Type 0) (image : List (List ℕ)) (at : ℕ) → opens A image ≡ Err (Damaged at) → (layout : Layout) (side : Side) →
+    layout_in image ≡ Ok layout → IsGreaterSide A layout image side
+    → (found : Option X) (side_of : X → Side) (epoch_of : X → ℕ) (out_of : X → LeftOut) (state_of : X → State) (stop_of : X → Option ℕ) (later_of : X → ℕ)
+    → MatchOption found (NothingIsLeft layout side image) (λ x. (side_of x ≡ side) × IsLeft A layout side image (epoch_of x) (out_of x) (state_of x) (stop_of x)
+    × AreLaterOf A layout side image (stop_of x) (later_of x))
     → MatchOption found (HasNoRest A image) (λ x. IsRestOf A image (side_of x) (epoch_of x) (out_of x) (state_of x) (stop_of x))
-of_greater A image at bad layout side label greater None side_of epoch_of out_of state_of stop_of says = record { at = at; layout = layout; side = side; damaged = bad; label = label; greater = greater; nothing = says }
-of_greater A image at bad layout side label greater (Some x) side_of epoch_of out_of state_of stop_of says =
+of_greater A image at bad layout side label greater None side_of epoch_of out_of state_of stop_of later_of says =
+    record { at = at; layout = layout; side = side; damaged = bad; label = label; greater = greater; nothing = says }
+of_greater A image at bad layout side label greater (Some x) side_of epoch_of out_of state_of stop_of later_of says =
     subst (λ (s : Side). IsRestOf A image s (epoch_of x) (out_of x) (state_of x) (stop_of x)) (sym says.0)
     (left at layout side (epoch_of x) (out_of x) (state_of x) (stop_of x) bad label greater says.1)
 
 -- a disk without a layout does not open
-pub unlabelled : (A : Type 0) (image : List (List ℕ)) (fault : StoreFault) → IsOfCheck fault → Fails fault (layout_in image) → Fails fault (opens A image)
+pub unlabelled : (A : Type 0) (image : List (List ℕ)) (fault : StoreFault) → IsNoDamage fault → Fails fault (layout_in image) → Fails fault (opens A image)
 unfolding opens
 unlabelled A image Unformatted may is = let none : layout_in image ≡ Err Unformatted = is in rw none refl
 unlabelled A image BadGeometry may is = let none : layout_in image ≡ Err BadGeometry = is in rw none refl

@@ -43,7 +43,8 @@ a_chosen a b lt = rw (eqb_no a b (omega (arith, lt)), le-ltb a b (omega (arith, 
 b_chosen : (a b : ℕ) → a < b → chosen (Some a) (Some b) ≡ Ok side.B
 b_chosen a b lt = rw (eqb_no a b (omega (arith, lt)), lt-ltb a b lt) refl
 
-pub side_found : (layout : Layout) (s : Side) (epoch : ℕ) (image : List (List ℕ)) → IsOpen (sector image (root_at s)) → slot_epoch layout s image ≡ Some epoch → IsBelow layout (other_of s) epoch image → side_in layout image ≡ Ok s
+pub side_found : (layout : Layout) (s : Side) (epoch : ℕ) (image : List (List ℕ)) → IsOpen (sector image (root_at s)) →
+    slot_epoch layout s image ≡ Some epoch → IsBelow layout (other_of s) epoch image → side_in layout image ≡ Ok s
 unfolding side_in
 side_found layout side.A epoch image opened states below =
     elim (below_states layout side.B image epoch below) [

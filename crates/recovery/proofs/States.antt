@@ -2,7 +2,6 @@
 use Rattle.std.proofs.Common.{◌≡◌, ℕ, Bool, true, false, List, [], ◌∷◌, Option, Some, None, Result, Ok, Err, IfErr, IfOk, refl, sym, subst, ap, ◌∙◌, if◌then◌else◌}
 use Rattle.std.specs.Prelude.{nat_eq, nat_lt}
 use Rattle.sector_disk.specs.Disk.{sector}
-use Rattle.gated_journal.specs.declared.form.Form.{Form}
 use Rattle.gated_journal.specs.Half.{Entry, Half, half_of, is_open}
 use Rattle.centre_core.specs.State.{State}
 use Rattle.checkpoint.specs.declared.layout.Layout.{Layout}
@@ -17,9 +16,10 @@ use Rattle.recovery.specs.declared.checking.SideState.TheVariants as state
 use Rattle.recovery.specs.declared.fault.StoreFault.{StoreFault}
 use Rattle.recovery.specs.declared.fault.StoreFault.TheVariants.{BadGeometry, Broken, Damaged, DiskFault, EpochsUsedUp, NoMemory, Unformatted, Unready}
 use Rattle.recovery.specs.Checking.{Agrees, Taken, epoch_of, opened_by, sector_of, state_after, state_by, state_in, stated, taken_from, taken_of}
-use Rattle.recovery.specs.Figures.{figures_in, figures_of}
+use Rattle.recovery.specs.Figures.{figures_in}
 use Rattle.recovery.specs.Label.{layout_in}
-use Rattle.recovery.specs.Opening.{Fails, Gives, IsOfDisk, IsOfOpening}
+use Rattle.recovery.specs.Opening.{Fails, Gives}
+use Rattle.recovery.specs.Inside.Reads.{IsOfReading, IsOfSector}
 use Rattle.recovery.specs.Opens.{Opening, base_in, chosen, headed, held_by, opening, opens, opens_by, placed, played, played_by, run, side_at, side_in, taken, ◌>>=◌}
 use Rattle.recovery.proofs.Chained.{then_ok}
 
@@ -83,69 +83,35 @@ module _ (A : Type 0) (layout : Layout) (s : Side) (image : List (List ℕ)) whe
   damage_opens = damage_then (base_in layout s image) (λ base. played_by A layout s base.1 image >>= λ end. Ok (opening layout s base.0 end.1 end.0)) (damage_base layout s image)
       (λ base. damage_then (played_by A layout s base.1 image) (λ end. Ok (opening layout s base.0 end.1 end.0)) (damage_by base.1) (λ end. tt))
 
--- other faults are not met on a side
-module _ {X : Type 0} (r : Result X StoreFault) (is : IsDamage r) where
-  no_unformatted : r ≡ Err Unformatted → ⊥
-  no_unformatted e = let bad : Unformatted ≡ Damaged (sector_of Unformatted) = subst IsDamage e is in cc
-
-  no_geometry : r ≡ Err BadGeometry → ⊥
-  no_geometry e = let bad : BadGeometry ≡ Damaged (sector_of BadGeometry) = subst IsDamage e is in cc
-
--- ---- the state of a side
-
 module _ (image : List (List ℕ)) where
   -- a fault of reading what follows the header
-  pub after_fault : (epoch : ℕ) (fault : StoreFault) (opened : Result Opening StoreFault) → IsOfOpening fault → IsDamage opened → Fails fault opened
+  pub after_fault : (epoch : ℕ) (fault : StoreFault) (opened : Result Opening StoreFault) → (n : ℕ) → IsOfReading n fault → IsDamage opened → Fails fault opened
       → Gives (λ (s : SideState). s) (state_after (Some epoch) fault) (Ok (state_by epoch image opened))
-  after_fault epoch Unformatted opened kind is failed = absurd (no_unformatted opened is failed)
-  after_fault epoch BadGeometry opened kind is failed = absurd (no_geometry opened is failed)
-  after_fault epoch (Damaged at) opened kind is failed = rw failed refl
-  after_fault epoch DiskFault opened kind is failed = tt
-  after_fault epoch Broken opened kind is failed = absurd kind
-  after_fault epoch NoMemory opened kind is failed = tt
-  after_fault epoch EpochsUsedUp opened kind is failed = absurd kind
-  after_fault epoch Unready opened kind is failed = absurd kind
+  after_fault epoch Unformatted opened n kind is failed = absurd kind
+  after_fault epoch BadGeometry opened n kind is failed = absurd kind
+  after_fault epoch (Damaged at) opened n kind is failed = rw failed refl
+  after_fault epoch DiskFault opened n kind is failed = tt
+  after_fault epoch Broken opened n kind is failed = absurd kind
+  after_fault epoch NoMemory opened n kind is failed = tt
+  after_fault epoch EpochsUsedUp opened n kind is failed = absurd kind
+  after_fault epoch Unready opened n kind is failed = absurd kind
 
   -- a fault of reading root and header
-  pub after_head_fault : (fault : StoreFault) (head : Result (Option ℕ) StoreFault) (opened : Result Opening StoreFault) → IsOfDisk fault → IsDamage head → Fails fault head
+  pub after_head_fault : (fault : StoreFault) (head : Result (Option ℕ) StoreFault) (opened : Result Opening StoreFault) → (n : ℕ) → IsOfSector n fault → IsDamage head → Fails fault head
       → Gives (λ (s : SideState). s) (state_after None fault) (Ok (stated image head opened))
-  after_head_fault Unformatted head opened kind is failed = absurd (no_unformatted head is failed)
-  after_head_fault BadGeometry head opened kind is failed = absurd (no_geometry head is failed)
-  after_head_fault (Damaged at) head opened kind is failed = rw failed refl
-  after_head_fault DiskFault head opened kind is failed = tt
-  after_head_fault Broken head opened kind is failed = absurd kind
-  after_head_fault NoMemory head opened kind is failed = tt
-  after_head_fault EpochsUsedUp head opened kind is failed = absurd kind
-  after_head_fault Unready head opened kind is failed = absurd kind
-
-pub of_disk_opens : (fault : StoreFault) → IsOfDisk fault → IsOfOpening fault
-of_disk_opens Unformatted kind = tt
-of_disk_opens BadGeometry kind = tt
-of_disk_opens (Damaged at) kind = tt
-of_disk_opens DiskFault kind = tt
-of_disk_opens Broken kind = kind
-of_disk_opens NoMemory kind = tt
-of_disk_opens EpochsUsedUp kind = kind
-of_disk_opens Unready kind = kind
+  after_head_fault Unformatted head opened n kind is failed = absurd kind
+  after_head_fault BadGeometry head opened n kind is failed = absurd kind
+  after_head_fault (Damaged at) head opened n kind is failed = rw failed refl
+  after_head_fault DiskFault head opened n kind is failed = tt
+  after_head_fault Broken head opened n kind is failed = absurd kind
+  after_head_fault NoMemory head opened n kind is failed = tt
+  after_head_fault EpochsUsedUp head opened n kind is failed = absurd kind
+  after_head_fault Unready head opened n kind is failed = absurd kind
 
 module _ (A : Type 0) (layout : Layout) (s : Side) (image : List (List ℕ)) where
-  -- what a whole side reports
-  pub state_whole : (form : Form) (epoch : ℕ) (o : Opening) → opens_by A layout s image ≡ Ok o → o.layout ≡ layout → o.side ≡ s → form ≡ slot_form layout s image
-      → state_by epoch image (opens_by A layout s image) ≡ state.Whole (figures_of o.layout o.side form o.epoch o.next o.state.count)
-  state_whole form epoch o is on at form_is = rw (is, on, at, form_is) refl
-
-  -- a side with an open root, by its header
-  pub state_open : (epoch : ℕ) → side_at layout s image ≡ Ok (Some epoch) → state_in A layout s image ≡ state_by epoch image (opens_by A layout s image)
+  pub state_unread : (fault : StoreFault) (n : ℕ) → IsOfSector n fault → Fails fault (side_at layout s image) → Gives (λ (s : SideState). s) (state_after None fault) (Ok (state_in A layout s image))
   unfolding state_in
-  state_open epoch is = rw is refl
-
-  pub state_unused : side_at layout s image ≡ Ok None → state_in A layout s image ≡ state.Unused
-  unfolding state_in
-  state_unused is = rw is refl
-
-  pub state_unread : (fault : StoreFault) → IsOfDisk fault → Fails fault (side_at layout s image) → Gives (λ (s : SideState). s) (state_after None fault) (Ok (state_in A layout s image))
-  unfolding state_in
-  state_unread fault kind failed = after_head_fault image fault (side_at layout s image) (opens_by A layout s image) kind (damage_at layout s image) failed
+  state_unread fault n kind failed = after_head_fault image fault (side_at layout s image) (opens_by A layout s image) n kind (damage_at layout s image) failed
 
 -- ---- a result
 
@@ -250,11 +216,9 @@ module _ (A : Type 0) (layout : Layout) (image : List (List ℕ)) where
       (agrees image (opens_by A layout side.A image) (opens_by A layout side.B image) (damage_opens A layout side.A image) (damage_opens A layout side.B image)
       (side_at layout side.A image) (side_at layout side.B image) (damage_at layout side.A image) (damage_at layout side.B image) (side_has side.A) (side_has side.B)))
     where
-      by_side : Side → Result Opening StoreFault
-      by_side side.A = opens_by A layout side.A image
-      by_side side.B = opens_by A layout side.B image
-
-      on_sides : (r : Result Side StoreFault) → (r >>= on image (opens_by A layout side.A image) (opens_by A layout side.B image) (damage_opens A layout side.A image) (damage_opens A layout side.B image)) ≡ (r >>= λ s. opens_by A layout s image)
+      on_sides : (r : Result Side StoreFault) →
+          (r >>= on image (opens_by A layout side.A image) (opens_by A layout side.B image) (damage_opens A layout side.A image)
+          (damage_opens A layout side.B image)) ≡ (r >>= λ s. opens_by A layout s image)
       on_sides (Ok side.A) = refl
       on_sides (Ok side.B) = refl
       on_sides (Err fault) = refl

@@ -42,7 +42,8 @@ use Rattle.recovery.proofs.Opened.{side_opens}
 
 -- ---- what is is opened to
 
-pub state_opens : (A : Type 0) (layout : Layout) (side : Side) (form : Form) (base : Base) (held : Held A) (s : State) (image : List (List ℕ)) → IsOnSide layout side form base held image → IsHistory base.1 (commands_of held.0) → s ≡ after base.1 (commands_of held.0) → OpensTo A s image
+pub state_opens : (A : Type 0) (layout : Layout) (side : Side) (form : Form) (base : Base) (held : Held A) (s : State) (image : List (List ℕ)) →
+    IsOnSide layout side form base held image → IsHistory base.1 (commands_of held.0) → s ≡ after base.1 (commands_of held.0) → OpensTo A s image
 state_opens A layout side form base held s image holds history made = record {
   opening = opening layout side base.0 held.1 (after base.1 (commands_of held.0));
   opens = side_opens layout side form base held image holds history;
@@ -70,7 +71,8 @@ module _ (A : Type 0) (layout : Layout) (side : Side) (epoch : ℕ) (journal : P
   in_checkpoint new leaves = weaker disk new Either (OpensTo A s) leaves either_opens
 
 -- the image is written, and then the side switched to
-module _ {A : Type 0} (layout : Layout) (current : Side) (form also : Form) (base next : Base) (held more : Held A) (old mid : View) (written : LeavesOnly old mid (IsOnSide layout current form base held)) where
+module _ {A : Type 0} (layout : Layout) (current : Side) (form also : Form) (base next : Base) (held more : Held A) (old mid : View)
+    (written : LeavesOnly old mid (IsOnSide layout current form base held)) where
   pub not_switched : LeavesOnly old mid (IsEither layout current form also base next held more)
   not_switched = weaker old mid (IsOnSide layout current form base held) (IsEither layout current form also base next held more) written (λ image is. inl is)
 
@@ -78,7 +80,9 @@ module _ {A : Type 0} (layout : Layout) (current : Side) (form also : Form) (bas
   then_switched new switched = run_on old mid new (IsEither layout current form also base next held more) (IsEither layout current form also base next held more) not_switched switched (λ image is. is)
 
 -- where all images are on a side with no record, the register is stored there
-pub stored_fresh : (A : Type 0) (layout : Layout) (side : Side) (epoch : ℕ) (s : State) (disk : View) → InEach disk (IsOnSide {A = A} layout side Numbered (epoch, s) (fresh layout side)) → IsStored A layout side epoch (fresh_place layout side s.count) s disk
+pub stored_fresh : (A : Type 0) (layout : Layout) (side : Side) (epoch : ℕ) (s : State) (disk : View) →
+    InEach disk (IsOnSide {A = A} layout side Numbered (epoch, s) (fresh layout side)) →
+    IsStored A layout side epoch (fresh_place layout side s.count) s disk
 stored_fresh A layout side epoch s disk each = record { base = s; entries = []; each = each; accepted = tt; made = refl; counts = refl }
 
 -- ---- commands that are given
@@ -100,14 +104,16 @@ pub counted_all : {A : Type 0} (before : ℕ) (entries : List (Entry A)) → cou
 counted_all before [] = omega arith
 counted_all before (entry ∷ entries) = omega (arith, counted_all (before + length entry.1) entries, length-append entry.1 (commands_of entries))
 
-module _ (A : Type 0) (layout : Layout) (side : Side) (epoch : ℕ) (place : Place) (first_is : place.first ≡ half_at layout side) (end_is : place.end ≡ half_end layout side) (within : place.next < half_end layout side)
+module _ (A : Type 0) (layout : Layout) (side : Side) (epoch : ℕ) (place : Place) (first_is : place.first ≡ half_at layout side)
+    (end_is : place.end ≡ half_end layout side) (within : place.next < half_end layout side)
     (s : State) (disk : View) (stored : IsStored A layout side epoch place s disk) where
   some : half_at layout side < half_end layout side
   some = let fewest = layout.in_range.fewest in omega (arith, fewest)
 
   -- with the records' commands so many are accepted as the place counts
   counts : counted stored.base.count stored.entries ≡ place.count
-  counts = counted_all stored.base.count stored.entries ∙ sym (numbers.counted stored.base (commands_of stored.entries) stored.accepted) ∙ ap (λ (t : State). t.count) (sym stored.made) ∙ sym stored.counts
+  counts = counted_all stored.base.count stored.entries ∙ sym (numbers.counted stored.base (commands_of stored.entries) stored.accepted) ∙
+      ap (λ (t : State). t.count) (sym stored.made) ∙ sym stored.counts
 
   pub settled : IsSettled disk place stored.base.count stored.entries
   settled = record {
@@ -129,13 +135,17 @@ module _ (A : Type 0) (layout : Layout) (side : Side) (epoch : ℕ) (place : Pla
 
     all_accepted : IsHistory stored.base (commands_of longer)
     all_accepted =
-        subst (λ (l : List (Asked A)). IsHistory stored.base l) (sym all) (history-append stored.base (commands_of stored.entries) more stored.accepted (subst (λ (t : State). IsHistory t more) stored.made history))
+        subst (λ (l : List (Asked A)). IsHistory stored.base l) (sym all)
+        (history-append stored.base (commands_of stored.entries) more stored.accepted
+        (subst (λ (t : State). IsHistory t more) stored.made history))
 
     all_made : after s more ≡ after stored.base (commands_of longer)
     all_made = ap (λ (t : State). after t more) stored.made ∙ sym (after-append stored.base (commands_of stored.entries) more) ∙ ap (after stored.base) (sym all)
 
     -- an image in which nothing but the half has changed
-    image_opens : (entries : List (Entry A)) (gate : ℕ) (image : List (List ℕ)) → Leaves disk place stored.base.count stored.entries last image → half_of place.form stored.base.count image place.first place.end ≡ Ok (entries, gate) → IsOnSide layout side place.form (epoch, stored.base) (entries, gate) image
+    image_opens : (entries : List (Entry A)) (gate : ℕ) (image : List (List ℕ)) → Leaves disk place stored.base.count stored.entries last image →
+        half_of place.form stored.base.count image place.first place.end ≡ Ok (entries, gate) →
+        IsOnSide layout side place.form (epoch, stored.base) (entries, gate) image
     image_opens entries gate image leaves half =
         let was = leaves.elsewhere.0 in
         let torn : IsTorn (half_at layout side) layout.journal was image = record {
@@ -143,11 +153,14 @@ module _ (A : Type 0) (layout : Layout) (side : Side) (epoch : ℕ) (place : Pla
           others = λ k out. leaves.elsewhere.2.others k (elim out [ inl low ↦ inl (omega (arith, first_is, low)) | inr high ↦ inr (omega (arith, first_is, end_is, high)) ]);
         } in
         let there : half_of place.form stored.base.count image (half_at layout side) (half_end layout side) ≡ Ok (entries, gate) = rw (first_is, end_is) at half in
-        on_side_with layout side place.form (epoch, stored.base) (stored.entries, place.next) (entries, gate) was image (stored.each was leaves.elsewhere.1) torn there (half_below place.form stored.base.count image (half_at layout side) (half_end layout side) entries gate some there)
+        on_side_with layout side place.form (epoch, stored.base) (stored.entries, place.next) (entries, gate) was image
+        (stored.each was leaves.elsewhere.1) torn there
+        (half_below place.form stored.base.count image (half_at layout side) (half_end layout side) entries gate some there)
 
     left_either : (image : List (List ℕ)) → Leaves disk place stored.base.count stored.entries last image → OpensToEither A s (after s more) image
     left_either image leaves = elim (leaves.half) [
-      | inl without ↦ inl (state_opens A layout side place.form (epoch, stored.base) (stored.entries, without.0) s image (image_opens stored.entries without.0 image leaves without.1) stored.accepted stored.made)
+      | inl without ↦ inl (state_opens A layout side place.form (epoch, stored.base) (stored.entries, without.0) s image
+          (image_opens stored.entries without.0 image leaves without.1) stored.accepted stored.made)
       | inr with ↦ inr (state_opens A layout side place.form (epoch, stored.base) (longer, with.0) (after s more) image (image_opens longer with.0 image leaves with.1) all_accepted all_made)
     ]
 
@@ -159,7 +172,9 @@ module _ (A : Type 0) (layout : Layout) (side : Side) (epoch : ℕ) (place : Pla
     stored_more new now first end form count leaves sound is = record {
       base = stored.base;
       entries = longer;
-      each = λ image left. rw form (image_opens longer now.next image (left_each disk new (Leaves disk place stored.base.count stored.entries last) leaves sound image left) (rw (first, end, form) at (is.half image left)));
+      each = λ image left. rw form
+          (image_opens longer now.next image (left_each disk new (Leaves disk place stored.base.count stored.entries last) leaves sound image left)
+          (rw (first, end, form) at (is.half image left)));
       accepted = all_accepted;
       made = all_made;
       counts = omega (arith, count, stored.counts, numbers.counted s more history);
@@ -196,7 +211,8 @@ pub some_sectors : {B : Type 0} (A : Type 0) (place : Place) (cs : List (Bor (As
 some_sectors A place cs = omega (arith, given_size A place.form place.count cs, head_some place.form)
 
 -- the greatest one fits after a new image
-pub fits_fresh : {T E B : Type 0} (A : Type 0) (r : Result T E) (layout : Layout) (side : Side) (count : ℕ) (now : Place) (cs : List (Bor (Asked B))) → ((form : Form) (before : ℕ) → data_size (record_text form before (given A cs)) ≤ most_sectors)
+pub fits_fresh : {T E B : Type 0} (A : Type 0) (r : Result T E) (layout : Layout) (side : Side) (count : ℕ) (now : Place)
+    (cs : List (Bor (Asked B))) → ((form : Form) (before : ℕ) → data_size (record_text form before (given A cs)) ≤ most_sectors)
     → OnOk r (now ≡ fresh_place layout side count) → OnOk r (data_size (text_at A now cs) ≤ room_of now)
 fits_fresh A (Ok t) layout side count now cs most is =
     let fewest = layout.in_range.fewest in
@@ -206,7 +222,8 @@ fits_fresh A (Ok t) layout side count now cs most is =
 fits_fresh A (Err e) layout side count now cs most is = tt
 
 -- a record of fewer bytes of commands fits where the greater one does
-pub fewer_fit : {B : Type 0} (A : Type 0) (place : Place) (less few more : List (Bor (Asked B))) (room : ℕ) → less ≡ few → length (flat_map (λ c. command_text c.now) few) ≤ length (flat_map (λ c. command_text c.now) more)
+pub fewer_fit : {B : Type 0} (A : Type 0) (place : Place) (less few more : List (Bor (Asked B))) (room : ℕ) → less ≡ few →
+    length (flat_map (λ c. command_text c.now) few) ≤ length (flat_map (λ c. command_text c.now) more)
     → data_size (text_at A place more) ≤ room → data_size (text_at A place less) ≤ room
 fewer_fit A place less few more room same size fits =
     let bytes : length (flat_map (λ c. command_text c.now) less) ≡ length (flat_map (λ c. command_text c.now) few) = ap (λ l. length (flat_map (λ c. command_text c.now) l)) same in

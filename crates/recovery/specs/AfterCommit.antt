@@ -55,9 +55,13 @@ module _ {A D : Type 0} (old new : StoreView A D) where
     pub journal : new.journal ≡ was.journal
     pub none : new.ongoing ≡ None
 
+  -- the checkpoint has its next rows
+  abbrev pub HasNextRows : Ongoing A → Type 0
+  HasNextRows was = (is : Ongoing A) × (new.ongoing ≡ Some is) × HasWrittenRows old.epoch was is
+
   -- the next rows are written, and if they end the image the other side counts
   abbrev pub GoesBy : Ongoing A → Bool → Type 0
-  GoesBy was false = Stays × ((is : Ongoing A) × (new.ongoing ≡ Some is) × HasWrittenRows old.epoch was is)
+  GoesBy was false = Stays × HasNextRows was
   GoesBy was true = HasEnded was
 
   -- after a record a checkpoint that is under way continues; if none is, one may begin
@@ -68,6 +72,10 @@ module _ {A D : Type 0} (old new : StoreView A D) where
 -- a checkpoint has made room, or the record fits
 abbrev pub HasRoom : {A D : Type 0} → StoreView A D → StoreView A D → Bool → Type 0
 HasRoom old new fits = Stays (with_room fits old) new × (new.ongoing ≡ (with_room fits old).ongoing)
+
+-- a checkpoint was made: the other side counts, with the next epoch and no record, and no checkpoint is under way
+abbrev pub HasMoved : {A D : Type 0} → StoreView A D → StoreView A D → Type 0
+HasMoved old new = HasRoom old new false
 
 -- where a commit of these commands leaves the store; without commands nothing is changed
 abbrev pub HasKept : {A D : Type 0} → StoreView A D → StoreView A D → List (Asked A) → Type 0

@@ -70,13 +70,13 @@ record_calls place (Some it) (c ∷ cs) =
 abbrev pub both_calls : {B : Type 0} (A : Type 0) → Place → Place → List (Bor (Asked B)) → List Call
 both_calls A x y commands = append_both_calls x.next (text_at A x commands) y.next (text_at A y commands)
 
+-- after the last row of the image its side, the other one, is made to count
+abbrev pub end_calls : Side → Bool → List Call
+end_calls side true = Sync ∷ switch_calls (other_of side)
+end_calls side false = []
+
 module _ (layout : Layout) (side : Side) where
   module _ (epoch : Epoch) where
-    -- after the last row of the image its side is made to count
-    abbrev pub end_calls : Bool → List Call
-    end_calls true = Sync ∷ switch_calls (other_of side)
-    end_calls false = []
-
     -- the next rows of a checkpoint that is under way are written
     abbrev pub rows_calls : {A : Type 0} → Ongoing A → List Call
     rows_calls it = next_calls layout (other_of side) (epoch + 1, it.register) it.progress.written
@@ -84,7 +84,7 @@ module _ (layout : Layout) (side : Side) where
     -- After a record: the next rows of a checkpoint that is under way, and the switch if they end the image. If one begins, the
     -- other side is closed, whose root was read as open or closed.
     abbrev pub ongoing_calls : {A : Type 0} → Option (Ongoing A) → Bool → Bool → List Call
-    ongoing_calls (Some it) begins was_open = rows_calls it ++ end_calls (ends_with (epoch + 1) it.register it.progress.written)
+    ongoing_calls (Some it) begins was_open = rows_calls it ++ end_calls side (ends_with (epoch + 1) it.register it.progress.written)
     ongoing_calls None true was_open = close_calls_by layout (other_of side) was_open
     ongoing_calls None false was_open = []
 
@@ -93,19 +93,11 @@ module _ (layout : Layout) (side : Side) where
     commit_calls_by place ongoing [] begins was_open = []
     commit_calls_by place ongoing (c ∷ cs) begins was_open = record_calls place ongoing (c ∷ cs) ++ ongoing_calls ongoing begins was_open
 
-    -- the same, by what the other side's root reads as
-    abbrev pub commit_calls : {A : Type 0} → Place → Option (Ongoing A) → List (Asked A) → Bool → List (List Byte) → List Call
-    commit_calls place ongoing accepted begins reads = commit_calls_by place ongoing accepted begins (is_root_open (other_of side) reads)
-
   module _ (epoch : Epoch) (state : State) where
     -- the register's image is written to the other side, whose root was read as open or closed, with the next epoch, and
     -- that side is made to count
     abbrev pub checkpoint_calls_by : Bool → List Call
     checkpoint_calls_by was_open = image_calls_by layout (other_of side) was_open (epoch + 1, state) ++ switch_calls (other_of side)
-
-    -- those of a checkpoint, by what the other side's root reads as
-    abbrev pub checkpoint_calls : List (List Byte) → List Call
-    checkpoint_calls reads = checkpoint_calls_by (is_root_open (other_of side) reads)
 
     -- none if the record fits, else those of a checkpoint
     abbrev pub room_calls_by : Bool → Bool → List Call

@@ -1,8 +1,12 @@
 -- What a check of a disk reports: the state of each side, and what opening makes of the two.
-use Rattle.std.specs.Prelude.{◌≡◌, ◌==◌, Bool, false, true, List, Option, Some, None, Result, Ok, Err, nat_lt, if◌then◌else◌}
+use Rattle.std.specs.Prelude.{◌≡◌, ◌⊎◌, ◌++◌, ◌∷◌, ◌==◌, Bool, false, true, List, [], Option, Some, None, Result, Ok, Err, nat_lt, if◌then◌else◌}
+use Rattle.std.specs.Option.{option_or}
 use Rattle.identity.specs.Numbers.{Byte}
 use Rattle.sector_disk.specs.Numbers.{Sector}
+use Rattle.sector_disk.specs.Disk.{View}
+use Rattle.sector_disk.specs.Reading.{before_reads}
 use Rattle.sector_disk.specs.declared.record.Call.{Call}
+use Rattle.sector_disk.specs.declared.record.Call.TheVariants.{Read, Sync}
 use Rattle.image_rows.specs.Numbers.{Epoch}
 use Rattle.checkpoint.specs.declared.layout.Layout.{Layout}
 use Rattle.checkpoint.specs.declared.side.Side.{Side}
@@ -16,7 +20,7 @@ use Rattle.recovery.specs.declared.checking.SideState.{SideState}
 use Rattle.recovery.specs.declared.checking.SideState.TheVariants as state
 use Rattle.recovery.specs.Figures.{figures_in}
 use Rattle.recovery.specs.Label.{layout_in}
-use Rattle.recovery.specs.Opening.{AreGoodSoFar}
+use Rattle.recovery.specs.Opening.{AreGoodSoFar, Fails, header_reads}
 use Rattle.recovery.specs.Opens.{Opening, opens_by, side_at, ◌>>=◌}
 
 -- ---- the state of a side
@@ -65,6 +69,16 @@ is_damaged (state.Damaged epoch sector) = true
 is_damaged state.Unused = false
 is_damaged (state.Whole contents) = false
 
+-- the first damaged sector of a side, if it has one
+abbrev pub damaged_sector : SideState → Option Sector
+damaged_sector (state.Damaged epoch at) = Some at
+damaged_sector state.Unused = None
+damaged_sector (state.Whole contents) = None
+
+-- the first damaged sector of side A, or else of side B
+abbrev pub first_damaged : SideState → SideState → Option Sector
+first_damaged a b = option_or (damaged_sector a) (damaged_sector b)
+
 -- ---- what opening makes of two sides
 
 -- the figures of the side that opening takes, or the sector at which it stops
@@ -112,28 +126,65 @@ abbrev pub Agrees : List (List Byte) → Taken → Result Opening StoreFault →
 Agrees image (Ok figures) opened = (opening : Opening) × (opened ≡ Ok opening) × (figures ≡ figures_in opening image)
 Agrees image (Err at) opened = opened ≡ Err (Damaged at)
 
--- ---- faults
+-- ---- the answer
 
--- A fault of a check: damage is none, since it is in the states.
-abbrev pub IsOfCheck : StoreFault → Type 0
-IsOfCheck Unformatted = Unit {0}
-IsOfCheck BadGeometry = Unit {0}
-IsOfCheck (Damaged at) = ⊥
-IsOfCheck DiskFault = Unit {0}
-IsOfCheck Broken = ⊥
-IsOfCheck NoMemory = Unit {0}
-IsOfCheck EpochsUsedUp = ⊥
-IsOfCheck Unready = ⊥
+module _ (A : Type 0) (image : List (List Byte)) where
+  -- the image has a layout, and this is so of what a check finds
+  abbrev pub Finds : (Checked → Type 0) → Type 0
+  Finds P = (checked : Checked) × (checked_in A image ≡ Ok checked) × P checked
 
--- The side's root is open, and its header and what was read of the side after it are good.
-pub record IsGoodSideSoFar (A : Type 0) (layout : Layout) (side : Side) (image : List (List Byte)) (calls : List Call) : Type 0 where
+  -- What a check of the image answers: what it finds, or why the image has no layout. Damage that is reported as a fault is that of side A:
+  -- memory ran out after it was found.
+  abbrev pub IsCheckOf : Result Checked StoreFault → Type 0
+  IsCheckOf (Ok checked) = checked_in A image ≡ Ok checked
+  IsCheckOf (Err (Damaged at)) = Finds (λ checked. IsDamagedAt at checked.a)
+  IsCheckOf (Err fault) = Fails fault (checked_in A image)
+
+-- the fault to be reported of a disk with this damaged sector: damage, where memory ran out
+abbrev pub unless_damaged : Option Sector → StoreFault → StoreFault
+unless_damaged (Some at) NoMemory = Damaged at
+unless_damaged (Some at) fault = fault
+unless_damaged None fault = fault
+
+-- a fault of a call that has damage in its answer, not as a fault
+abbrev pub IsNoDamage : StoreFault → Type 0
+IsNoDamage Unformatted = Unit {0}
+IsNoDamage BadGeometry = Unit {0}
+IsNoDamage (Damaged at) = ⊥
+IsNoDamage DiskFault = Unit {0}
+IsNoDamage Broken = ⊥
+IsNoDamage NoMemory = Unit {0}
+IsNoDamage EpochsUsedUp = ⊥
+IsNoDamage Unready = ⊥
+
+-- ---- out of memory
+
+-- The side's root is open, and it has a header. After the calls before, the reads that find this header were made, and what was read of the
+-- side after these is good.
+pub record IsGoodSideSoFar (A : Type 0) (layout : Layout) (side : Side) (image : List (List Byte)) (before calls : List Call) : Type 0 where
   pub epoch : Epoch
   pub header : side_at layout side image ≡ Ok (Some epoch)
-  pub good : AreGoodSoFar A layout side image calls
+  pub good : AreGoodSoFar A layout side image (before ++ header_reads layout side image) calls
 
--- The image has a label, and what was read last is a side that is good so far.
-pub record HasGoodSideSoFar (A : Type 0) (image : List (List Byte)) (calls : List Call) : Type 0 where
+-- Side A is not damaged. After it side B was read, which is good so far.
+pub record IsGoodAfterA (A : Type 0) (layout : Layout) (image : List (List Byte)) (calls : List Call) : Type 0 where
+  pub a : is_damaged (state_in A layout side.A image) ≡ false
+  pub earlier : List Call
+  pub b : IsGoodSideSoFar A layout side.B image earlier calls
+
+-- No damage was met: the image has a label. After the calls before, the label was read and then side A, which is good so far. Or side A is not
+-- damaged, and side B is good so far.
+pub record HasNoDamageYet (A : Type 0) (image : List (List Byte)) (before calls : List Call) : Type 0 where
   pub layout : Layout
-  pub side : Side
   pub label : layout_in image ≡ Ok layout
-  pub last : IsGoodSideSoFar A layout side image calls
+  pub last : IsGoodSideSoFar A layout side.A image (before ++ Read label_at ∷ []) calls ⊎ IsGoodAfterA A layout image calls
+
+-- ---- calls
+
+-- one sync is called, and then only reads
+abbrev pub HasSynced : View → View → Type 0
+HasSynced old new = before_reads new.calls ≡ old.calls ++ Sync ∷ []
+
+-- one sync is called, and then only reads; or nothing is, with a fault of the device
+abbrev pub HasSyncedUnless : View → View → StoreFault → Type 0
+HasSyncedUnless old new fault = HasSynced old new ⊎ ((fault ≡ DiskFault) × (new.calls ≡ old.calls))

@@ -74,7 +74,7 @@ named at what (Some why) = damage at what why ∷ []
 abbrev pub row_damage : List (List Byte) → Sector → Header → ℕ → List Damage
 row_damage image slot h place = named (slot + place) (kind_at h place) (fault_at h place (row_in (sector image (slot + place))))
 
--- the same of so many rows from a place on
+-- of so many rows of the slot from a place on, those with which something is wrong by themselves
 unfoldable pub rows_damage : List (List Byte) → Sector → Header → ℕ → Sectors → List Damage
 rows_damage image slot h place zero = []
 rows_damage image slot h place (suc n) = rows_damage image slot h place n ++ row_damage image slot h (place + n)
@@ -115,7 +115,7 @@ after_row layout side image h first bad =
     damage first (kind_at h place) (fault_of_first (row_in (sector image first)))
     ∷ rows_damage image (slot_at layout side) h (place + 1) (row_count h - (place + 1)) ++ record_damage layout side image bad
 
--- the damaged sectors of a side with this header, which opening stops at this sector
+-- the damaged sectors of a side with this header, on which opening stops at this sector
 abbrev pub after_header : Layout → Side → List (List Byte) → Sector → Header → Option Sector → List Damage
 after_header layout s image first h bad =
     if nat_lt first (half_at layout side.A) then after_row layout s image h first bad
@@ -129,7 +129,7 @@ module _ (A : Type 0) where
       if header_may layout.limits h then after_header layout side image first h (bad_record_in A layout side h image)
       else damage first kind.Header reason.BeyondLimits ∷ []
 
-  -- the same, by what the disk reads as
+  -- the damaged sectors of a side at whose sector `first` opening stops, by what the disk reads as
   unfoldable pub damage_from : Layout → Side → List (List Byte) → Sector → List Damage
   damage_from layout side image first = damage_by layout side image first (header_of (row_in (sector image (slot_at layout side))))
 

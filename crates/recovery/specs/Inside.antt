@@ -1,5 +1,14 @@
+pub mod Reads
+pub mod Played
+pub mod Damaged
+pub mod Current
 pub mod BothHalves
 pub mod Opened
 pub mod Sides
 pub mod Filled
+pub mod Added
+pub mod Applied
+pub mod InCall
+pub mod OneCommand
+pub mod Written
 pub mod Rests

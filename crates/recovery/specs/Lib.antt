@@ -18,4 +18,8 @@ pub mod Lives
 pub mod Inside
 pub mod AfterCommit
 pub mod Commits
+pub mod Batch
+pub mod Checkpointed
+pub mod OpenedStore
+pub mod Laws
 pub mod UnderWay

@@ -19,7 +19,7 @@ use Rattle.gated_journal.specs.declared.place.Place.{Place}
 use Rattle.checkpoint.specs.declared.layout.Layout.{Layout}
 use Rattle.checkpoint.specs.declared.side.Side.{Side}
 use Rattle.checkpoint.specs.OnSide.{InEach}
-use Rattle.recovery.specs.Opens.{opening, opens}
+use Rattle.recovery.specs.Opens.{Opening, opening, opens}
 use Rattle.recovery.specs.OpensTo.{OpensTo}
 use Rattle.recovery.specs.UnderWay.{IsKept}
 use Rattle.recovery.specs.Lasting.{LacksWhereEnded}
@@ -237,3 +237,34 @@ module _ (A : Type 0) (base : State) where
     pub are : AreKept events kept
     pub history : IsHistory base kept
     pub made : store.register ≡ after base kept
+
+-- ---- laws of lives
+
+module _ {D : Type 0} (A : Type 0) (view : D → View) where
+  -- a life may begin with an honest disk that opens to a register after each stop
+  abbrev pub BeginsWhereEachOpens : Type 0
+  BeginsWhereEachOpens =
+      (base : State) (disk : D) → (view disk).honest → InEach (view disk) (OpensTo A base) → IsLife A view base [] (Closed disk)
+
+  -- and with one that opens to it as it reads, if nothing is pending
+  abbrev pub BeginsWhereDurable : Type 0
+  BeginsWhereDurable =
+      (opening : Opening) (disk : D) → (view disk).honest → ((k : Sector) → (view disk).pending k ≡ false)
+      → opens A (view disk).reads ≡ Ok opening → IsLife A view opening.state [] (Closed disk)
+
+  -- each image that a stop may leave is what lasts of the events
+  abbrev pub LastsOnDisk : Type 0
+  LastsOnDisk =
+      (base : State) (events : List (Event A)) (now : Phase A D) → IsLife A view base events now
+      → InEach (view (disk_of now)) (Lasts A base events)
+
+  -- so is the register of a store that is not broken, and it is on the disk
+  abbrev pub LastsWhereSound : Type 0
+  LastsWhereSound =
+      (base : State) (events : List (Event A)) (store : StoreView A D) → IsLife A view base events (Open store)
+      → store.broken ≡ false → IsStoredIn A view store × LastsInStore A base events store
+
+-- no message is lost in what lasts
+abbrev pub NoMessageIsLost : Type 0 → Type 0
+NoMessageIsLost A =
+    (base : State) (events : List (Event A)) (image : List (List Byte)) (lasts : Lasts A base events image) → LosesNoMessage A base lasts.kept image

@@ -1,35 +1,28 @@
 -- What the calls that open a disk answer.
-use Rattle.std.specs.Prelude.{◌≡◌, ◌⊎◌, ◌≤◌, ℕ, Bool, true, false, List, ◌++◌, Result, Ok, Err}
+use Rattle.std.specs.Prelude.{◌≡◌, ◌⊎◌, ◌+◌, ◌<◌, ◌≤◌, ℕ, Bool, true, false, List, [], ◌∷◌, ◌++◌, length, Some, Result, Ok, Err, IsTrue, if◌then◌else◌}
 use Rattle.identity.specs.Numbers.{Byte}
 use Rattle.sector_disk.specs.Numbers.{Sector, Sectors}
-use Rattle.sector_disk.specs.Disk.{View}
+use Rattle.sector_disk.specs.Disk.{View, sector}
 use Rattle.sector_disk.specs.declared.record.Call.{Call}
+use Rattle.sector_disk.specs.declared.record.Call.TheVariants.{Read}
+use Rattle.centre_core.specs.Asked.{Asked}
+use Rattle.centre_core.specs.Memory.{needs_memory}
 use Rattle.centre_core.specs.State.{State}
 use Rattle.gated_journal.specs.declared.place.Place.{Place}
 use Rattle.gated_journal.specs.declared.fault.JournalError.{JournalError}
 use Rattle.gated_journal.specs.declared.fault.JournalError.TheVariants as journal
-use Rattle.gated_journal.specs.Half.{Entry, Half, half_of, with_prefix}
+use Rattle.gated_journal.specs.Half.{Entry, Half, half_of, is_open}
 use Rattle.gated_journal.specs.Reading.{HasRecords}
 use Rattle.checkpoint.specs.declared.layout.Layout.{Layout}
 use Rattle.checkpoint.specs.declared.side.Side.{Side}
-use Rattle.checkpoint.specs.Layout.{half_at, half_end, slot_at}
-use Rattle.checkpoint.specs.Reading.{read_calls}
+use Rattle.checkpoint.specs.declared.side.Side.TheVariants as side
+use Rattle.checkpoint.specs.Layout.{half_at, half_end, label_at, root_at, slot_at}
+use Rattle.checkpoint.specs.Reading.{image_reads, read_calls}
 use Rattle.checkpoint.specs.OnSide.{Base, Held, slot_form, slot_in}
 use Rattle.recovery.specs.declared.fault.StoreFault.{StoreFault}
 use Rattle.recovery.specs.declared.fault.StoreFault.TheVariants.{BadGeometry, Broken, Damaged, DiskFault, EpochsUsedUp, NoMemory, Unformatted, Unready}
 use Rattle.recovery.specs.Label.{layout_in}
-use Rattle.recovery.specs.Opens.{Reached, base_in, held_by, played_from, side_in}
-
--- a fault of reading a disk without memory
-abbrev pub IsOfDisk : StoreFault → Type 0
-IsOfDisk Unformatted = Unit {0}
-IsOfDisk BadGeometry = Unit {0}
-IsOfDisk (Damaged at) = Unit {0}
-IsOfDisk DiskFault = Unit {0}
-IsOfDisk Broken = ⊥
-IsOfDisk NoMemory = ⊥
-IsOfDisk EpochsUsedUp = ⊥
-IsOfDisk Unready = ⊥
+use Rattle.recovery.specs.Opens.{Reached, base_in, held_by, played, played_from, run, side_in}
 
 -- a fault of an opening, before which there is no store
 abbrev pub IsOfOpening : StoreFault → Type 0
@@ -82,10 +75,6 @@ abbrev pub rest_in : (A : Type 0) → Place → Sector → View → Half A
 rest_in A place end disk = half_of {A = A} place.form place.count disk.reads place.next end
 
 module _ {A : Type 0} where
-  -- half is some records and then rest
-  abbrev pub BeginsWith : Half A → Half A → Type 0
-  BeginsWith half rest = (prefix : List (Entry A)) × (half ≡ with_prefix prefix rest)
-
   -- A fault is met. A fault in these records comes before it.
   abbrev pub Stops : StoreFault → Result (Held A) StoreFault → Result Reached StoreFault → Type 0
   Stops fault (Ok held) is = Fails fault is
@@ -104,28 +93,65 @@ module _ {A : Type 0} where
 
 -- ---- out of memory
 
--- So many sectors of the side's slot were read last, from the first on, and none of them is a bad one.
-pub record AreGoodRows (layout : Layout) (side : Side) (image : List (List Byte)) (calls : List Call) : Type 0 where
-  pub before : List Call
+-- from old to new there were more calls than sectors from first up to end: some sector was read again
+abbrev pub HasReadAgain : List Call → List Call → Sector → Sector → Type 0
+HasReadAgain old new first end = length old + end < length new + first
+
+module _ {A : Type 0} where
+  -- Of these commands the first ones are accepted in turn, from s to t. The next one needs memory in t.
+  pub record NeedsMemory (s : State) (commands : List (Asked A)) (t : State) : Type 0 where
+    pub done : List (Asked A)
+    pub next : Asked A
+    pub later : List (Asked A)
+    pub all : commands ≡ done ++ next ∷ later
+    pub accepted : run s done ≡ Some t
+    pub needs : IsTrue (needs_memory t next)
+
+  -- Of these records the first ones are played, each of their commands accepted. Memory ran out for the next one: to read it, of which Again
+  -- is the trace; or for one of its commands, after others that are accepted.
+  pub record IsCutShort (s : State) (entries : List (Entry A)) (Again : Type 0) : Type 0 where
+    pub done : List (Entry A)
+    pub next : Entry A
+    pub later : List (Entry A)
+    pub state : State
+    pub all : entries ≡ done ++ next ∷ later
+    pub accepted : played s done ≡ Ok state
+    pub stops : Again ⊎ ((t : State) × NeedsMemory state next.1 t)
+
+-- the reads that find the header of a side: that of its root and, if this is open, that of the first sector of its slot
+abbrev pub header_reads : Layout → Side → List (List Byte) → List Call
+header_reads layout side image = Read (root_at side) ∷ (if is_open (sector image (root_at side)) then Read (slot_at layout side) ∷ [] else [])
+
+-- the reads that find the side that counts: that of the label, and those that find the header of each side
+abbrev pub side_reads : Layout → List (List Byte) → List Call
+side_reads layout image = Read label_at ∷ (header_reads layout side.A image ++ header_reads layout side.B image)
+
+-- All calls are those before, and then reads of so many sectors of the side's slot, each once, from the first on. None of these sectors is
+-- the bad one.
+pub record AreGoodRows (layout : Layout) (side : Side) (image : List (List Byte)) (before calls : List Call) : Type 0 where
   pub read : Sectors
   pub last : calls ≡ before ++ read_calls (slot_at layout side) read
   pub good : (place : ℕ) → slot_in layout side image ≡ Err place → read ≤ place
 
--- All rows of the side's image are good, and there are good records up to a closed gate. (Only playing them shows whether their
--- commands are accepted.)
-pub record AreAllGood (A : Type 0) (layout : Layout) (side : Side) (image : List (List Byte)) : Type 0 where
+-- All rows of the side's image are good, and there are good records up to a closed gate. Those that were played are accepted, up to the one
+-- that memory ran out for: it could not be read, and so was read again, or one of its commands needs memory.
+pub record AreAllGood (A : Type 0) (layout : Layout) (side : Side) (image : List (List Byte)) (before calls : List Call) : Type 0 where
   pub base : Base
   pub rows : base_in layout side image ≡ Ok base
   pub records : HasRecords A (slot_form layout side image) base.1.count image (half_at layout side) (half_end layout side)
+  pub cut : IsCutShort base.1 records.0.0 (HasReadAgain (before ++ image_reads (slot_at layout side) base) calls
+      (half_at layout side) (records.0.1 + 1))
 
--- the rows that were read last are good, or all rows and all records are
-abbrev pub AreGoodSoFar : Type 0 → Layout → Side → List (List Byte) → List Call → Type 0
-AreGoodSoFar A layout side image calls = AreGoodRows layout side image calls ⊎ AreAllGood A layout side image
+-- after the calls before, only rows of the side were read, and these are good; or all its rows and all its records are good, and those that
+-- were played are accepted
+abbrev pub AreGoodSoFar : Type 0 → Layout → Side → List (List Byte) → List Call → List Call → Type 0
+AreGoodSoFar A layout side image before calls = AreGoodRows layout side image before calls ⊎ AreAllGood A layout side image before calls
 
--- No fault was met: the image has a label and a side that counts, and what was read of that side is good.
-pub record HasNoFaultYet (A : Type 0) (image : List (List Byte)) (calls : List Call) : Type 0 where
+-- No fault was met: the image has a label and a side that counts. After the calls before, the reads that find this side were made, and
+-- what was read of it after these is good.
+pub record HasNoFaultYet (A : Type 0) (image : List (List Byte)) (before calls : List Call) : Type 0 where
   pub layout : Layout
   pub side : Side
   pub label : layout_in image ≡ Ok layout
   pub counts : side_in layout image ≡ Ok side
-  pub good : AreGoodSoFar A layout side image calls
+  pub good : AreGoodSoFar A layout side image (before ++ side_reads layout image) calls

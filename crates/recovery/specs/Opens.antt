@@ -112,7 +112,7 @@ played_from s half = do
   Ok (t, held.1)
 
 module _ (A : Type 0) where
-  -- the same of a side's half, read in the form that its slot states and numbered from the state's count on
+  -- the state after the commands of a side's half, read in the form that its slot states and numbered from the state's count on
   unfoldable pub played_by : Layout → Side → State → List (List Byte) → Result Reached StoreFault
   played_by layout side s image = played_from s (half_of {A = A} (slot_form layout side image) s.count image (half_at layout side) (half_end layout side))
 

@@ -2,6 +2,7 @@
 use Rattle.std.specs.Prelude.{◌≡◌, ℕ, Bool, true, false, ◌&&◌, Option, Some, None, nat_le}
 use Rattle.std.proofs.Common.{refl}
 use Rattle.std.proofs.lemmas.Bool.{leb-true}
+use Rattle.base.proofs.Bools.{both_true}
 use Rattle.registration.specs.Limits.{AreLimits, rule_capacity, radio_capacity, mail_capacity, station_capacity}
 use Rattle.registration.specs.declared.limits.Limits.{Limits}
 use Rattle.sector_disk.specs.Numbers.{Sectors}
@@ -24,21 +25,17 @@ is_half_size journal = is_within fewest_sectors most_sectors journal
 
 -- ---- what passes the tests is in range
 
-both : (a b : Bool) → (a && b) ≡ true → (a ≡ true) × (b ≡ true)
-both true b e = (refl, e)
-both false b e = absurd cc
-
 pub limits_pass : (rules radios mail stations : ℕ) → are_limits rules radios mail stations ≡ true → AreLimits rules radios mail stations
 limits_pass rules radios mail stations e =
     let halves =
-    both (is_within 1 rule_capacity rules && is_within 1 radio_capacity radios)
+    both_true (is_within 1 rule_capacity rules && is_within 1 radio_capacity radios)
     (is_within 1 mail_capacity mail && is_within 1 station_capacity stations) e in
-    let first = both (is_within 1 rule_capacity rules) (is_within 1 radio_capacity radios) halves.0 in
-    let second = both (is_within 1 mail_capacity mail) (is_within 1 station_capacity stations) halves.1 in
-    let r = both (nat_le 1 rules) (nat_le rules rule_capacity) first.0 in
-    let d = both (nat_le 1 radios) (nat_le radios radio_capacity) first.1 in
-    let m = both (nat_le 1 mail) (nat_le mail mail_capacity) second.0 in
-    let s = both (nat_le 1 stations) (nat_le stations station_capacity) second.1 in
+    let first = both_true (is_within 1 rule_capacity rules) (is_within 1 radio_capacity radios) halves.0 in
+    let second = both_true (is_within 1 mail_capacity mail) (is_within 1 station_capacity stations) halves.1 in
+    let r = both_true (nat_le 1 rules) (nat_le rules rule_capacity) first.0 in
+    let d = both_true (nat_le 1 radios) (nat_le radios radio_capacity) first.1 in
+    let m = both_true (nat_le 1 mail) (nat_le mail mail_capacity) second.0 in
+    let s = both_true (nat_le 1 stations) (nat_le stations station_capacity) second.1 in
     record {
       some_rules = leb-true 1 rules r.0;
       most_rules = leb-true rules rule_capacity r.1;
@@ -52,7 +49,7 @@ limits_pass rules radios mail stations e =
 
 pub half_size_passes : (journal : Sectors) → is_half_size journal ≡ true → IsHalfSize journal
 half_size_passes journal e =
-    let parts = both (nat_le fewest_sectors journal) (nat_le journal most_sectors) e in
+    let parts = both_true (nat_le fewest_sectors journal) (nat_le journal most_sectors) e in
     record { fewest = leb-true fewest_sectors journal parts.0; most = leb-true journal most_sectors parts.1 }
 
 -- ---- the values

@@ -7,7 +7,8 @@ use Rattle.recovery.specs.declared.fault.StoreFault.TheVariants.{BadGeometry, Br
 abbrev pub IsErrEither : {T E : Type 0} → Result T E → E → E → Type 0
 IsErrEither result e f = (result ≡ Err e) ⊎ (result ≡ Err f)
 
--- what a commit may be refused for; only an opening reports the other faults
+-- What a commit may be refused for. Other calls report the rest: a format, an opening or a check what is wrong with a disk, and a
+-- checkpoint or a desk that the epochs are used up.
 abbrev pub IsOfCommit : StoreFault → Type 0
 IsOfCommit Unformatted = ⊥
 IsOfCommit BadGeometry = ⊥

@@ -1,6 +1,7 @@
 -- What is left of the register on a damaged disk: the rows and the records of a side that can still be read.
 use Rattle.std.specs.Prelude.{◌≡◌, ℕ, zero, suc, ◌+◌, ◌-◌, ◌&&◌, ◌||◌, ◌==◌, Bool, true, false, List, [], ◌∷◌, length, Option, Some, None, Result, Ok, Err, nat_lt, unwrap_or}
-use Rattle.std.specs.Prelude.{if◌then◌else◌}
+use Rattle.std.specs.Prelude.{MatchOption, if◌then◌else◌, nat_le}
+use Rattle.byteorder.specs.Endian.{big_from}
 use Rattle.identity.specs.Numbers.{Byte}
 use Rattle.sector_disk.specs.Numbers.{Sector, Sectors}
 use Rattle.sector_disk.specs.Disk.{sector}
@@ -14,13 +15,15 @@ use Rattle.image_rows.specs.RowReading.{row_in}
 use Rattle.image_rows.specs.Loading.{Loading, begun, finished, header_may, row_taken}
 use Rattle.image_rows.specs.Held.{taken_from}
 use Rattle.gated_journal.specs.declared.form.Form.{Form}
-use Rattle.gated_journal.specs.Half.{is_open, record_at}
+use Rattle.gated_journal.specs.Half.{is_open, record_at, stated_size}
+use Rattle.gated_journal.specs.Record.{most_commands}
 use Rattle.checkpoint.specs.declared.layout.Layout.{Layout}
 use Rattle.checkpoint.specs.declared.side.Side.{Side}
 use Rattle.checkpoint.specs.declared.side.Side.TheVariants as side
 use Rattle.checkpoint.specs.Layout.{half_at, half_end, root_at, slot_at}
 use Rattle.checkpoint.specs.OnSide.{slot_form}
 use Rattle.recovery.specs.declared.rest.LeftOut.{LeftOut}
+use Rattle.recovery.specs.declared.rest.Rest.{Rest}
 use Rattle.recovery.specs.declared.damaged.Kind.{Kind}
 use Rattle.recovery.specs.declared.damaged.Kind.TheVariants as kind
 use Rattle.recovery.specs.declared.damaged.Reason.{Reason}
@@ -102,7 +105,7 @@ module _ (limits : Limits) (image : List (List Byte)) (slot : Sector) (stated : 
   made_by zero h = None
   made_by (suc n) h = let kept = kept_under h in made_or h (finished kept.loading) (made_by n (lowered h kept.rows))
 
-  -- the same of the slot: the header is changed four times at most, once for each kind
+  -- the register of the slot's rows that are kept: the header is changed four times at most, once for each kind
   abbrev pub left_in : Option (Header × State)
   left_in = made_by 5 stated
 
@@ -127,6 +130,41 @@ pub data LeadsTo (A : Type 0) (form : Form) (image : List (List Byte)) (end : Se
       → record_at form before image at end ≡ Ok (Some (commands, gate)) → run_while s commands ≡ (t, true)
       → LeadsTo A form image end (before + length commands) gate t u bad → LeadsTo A form image end before at s u bad
 
+-- ---- the records after that one
+
+-- From a gate on, after so many commands, so many records can be read, one after another.
+pub data AreReadable (A : Type 0) (form : Form) (image : List (List Byte)) (end : Sector) : ℕ → Sector → ℕ → Type 0 where
+  up_to_closed : (before : ℕ) (at : Sector) → record_at {A = A} form before image at end ≡ Ok None → AreReadable A form image end before at 0
+  up_to_bad : (before : ℕ) (at bad : Sector) → record_at {A = A} form before image at end ≡ Err bad → AreReadable A form image end before at 0
+  one_more : (before : ℕ) (at : Sector) (commands : List (Asked A)) (gate : Sector) (n : ℕ)
+      → record_at form before image at end ≡ Ok (Some (commands, gate))
+      → AreReadable A form image end (before + length commands) gate n → AreReadable A form image end before at (n + 1)
+
+-- so many can be read from a gate on, if there is one, which comes with the number of commands before it; else none
+abbrev pub AreReadableAt : (A : Type 0) → Form → List (List Byte) → Sector → Option (ℕ × Sector) → ℕ → Type 0
+AreReadableAt A form image end None n = n ≡ 0
+AreReadableAt A form image end (Some x) n = AreReadable A form image end x.0 x.1 n
+
+-- The gate after a record that can't be read, and the number of commands before it, as the bad sector states them. There is none if
+-- that sector is the record's gate, if it states more commands than a record has, or an end beyond the half's last gate.
+abbrev pub gate_after : Form → ℕ → List (List Byte) → Sector → Sector → Sector → Option (ℕ × Sector)
+gate_after form before image at bad end =
+    let commands = big_from 0 2 (sector image bad) in
+    let gate = bad + stated_size form (sector image bad) in
+    if nat_lt at bad && (nat_le commands most_commands && nat_lt gate end) then Some (before + commands, gate) else None
+
+-- From a gate on, after so many commands, records that can be read lead to one in this sector, and so many after it can be read: from
+-- where it states that it ends, if it can't be read itself, else from where it ends. That the records end at it, `LeadsTo` alone says.
+pub data AreLater (A : Type 0) (form : Form) (image : List (List Byte)) (end : Sector) : ℕ → Sector → Sector → ℕ → Type 0 where
+  after_unreadable : (before : ℕ) (at bad : Sector) (later : ℕ) → record_at {A = A} form before image at end ≡ Err bad
+      → AreReadableAt A form image end (gate_after form before image at bad end) later → AreLater A form image end before at bad later
+  after_refused : (before : ℕ) (at : Sector) (commands : List (Asked A)) (gate : Sector) (later : ℕ)
+      → record_at form before image at end ≡ Ok (Some (commands, gate))
+      → AreReadable A form image end (before + length commands) gate later → AreLater A form image end before at (at + 1) later
+  after_played : (before : ℕ) (at : Sector) (commands : List (Asked A)) (gate bad : Sector) (later : ℕ)
+      → record_at form before image at end ≡ Ok (Some (commands, gate))
+      → AreLater A form image end (before + length commands) gate bad later → AreLater A form image end before at bad later
+
 -- ---- a side
 
 -- the side's root is open, and its slot begins with this header, which the limits allow
@@ -134,6 +172,10 @@ pub record HasHeader (layout : Layout) (side : Side) (image : List (List Byte)) 
   pub root : is_open (sector image (root_at side)) ≡ true
   pub stated : header_of (row_in (sector image (slot_at layout side))) ≡ Some h
   pub may : header_may layout.limits h ≡ true
+
+-- the side's root is open, and its slot begins with a header that the limits allow
+abbrev pub HasGoodHeader : Layout → Side → List (List Byte) → Type 0
+HasGoodHeader layout side image = (h : Header) × HasHeader layout side image h
 
 -- how many rows of each kind are left out, by the header that is there and by one that states as many as are kept
 abbrev pub left_out : Header → Header → LeftOut
@@ -156,7 +198,16 @@ pub record IsLeft (A : Type 0) (layout : Layout) (side : Side) (image : List (Li
   pub of_epoch : epoch ≡ stated.epoch
   pub missing : out ≡ left_out stated kept
 
--- nothing is left of a side: its root is closed, or its header is damaged
+-- So many records of a side's half, whose records follow so many commands, can be read after the one at which they end.
+abbrev pub AreLaterIn : (A : Type 0) → Layout → Side → List (List Byte) → ℕ → Option Sector → ℕ → Type 0
+AreLaterIn A layout side image before None later = later ≡ 0
+AreLaterIn A layout side image before (Some bad) later = AreLater A (slot_form layout side image) image (half_end layout side) before (half_at layout side) bad later
+
+-- So many records of a side can be read after the one at which they end. Its header counts the commands before them.
+abbrev pub AreLaterOf : (A : Type 0) → Layout → Side → List (List Byte) → Option Sector → ℕ → Type 0
+AreLaterOf A layout side image bad later = (h : Header) × HasHeader layout side image h × AreLaterIn A layout side image h.count bad later
+
+-- nothing is left of a side: its root is closed, its header is damaged or beyond the limits, or its rows make no register
 abbrev pub NothingIsLeft : Layout → Side → List (List Byte) → Type 0
 NothingIsLeft layout side image = (h : Header) → HasHeader layout side image h → left_in layout.limits image (slot_at layout side) h ≡ None
 
@@ -172,11 +223,11 @@ IsSizeOf A layout side image None = NothingIsLeft layout side image
 IsSizeOf A layout side image (Some size) =
     (out : LeftOut) × (s : State) × (bad : Option Sector) × IsLeft A layout side image size.1 out s bad × (size.0 ≡ s.count)
 
--- the side of which more commands are left, or the one of the greater epoch if these are equal
+-- the side of which more commands are left, or the one of the greater epoch if these are equal; A if both are
 abbrev pub greater_of : Size → Size → Side
 greater_of a b = if nat_lt a.0 b.0 || ((a.0 == b.0) && nat_lt a.1 b.1) then side.B else side.A
 
--- the same, where something is left of a side
+-- the side of which more is left, or the only one of which something is; A if nothing is left of either
 abbrev pub greater_side : Option Size → Option Size → Side
 greater_side a None = side.A
 greater_side None (Some b) = side.B
@@ -203,6 +254,19 @@ pub data IsRestOf (A : Type 0) (image : List (List Byte)) : Side → Epoch → L
       → opens A image ≡ Err (Damaged at) → layout_in image ≡ Ok layout → IsGreaterSide A layout image side
       → IsLeft A layout side image epoch out s bad → IsRestOf A image side epoch out s bad
 
+-- So many records of a side can be read after the one at which they end; none if they end at none, as on a disk that opens.
+abbrev pub AreLaterOnDisk : (A : Type 0) → List (List Byte) → Side → Option Sector → ℕ → Type 0
+AreLaterOnDisk A image side None later = later ≡ 0
+AreLaterOnDisk A image side (Some bad) later = (layout : Layout) × (layout_in image ≡ Ok layout) × AreLaterOf A layout side image (Some bad) later
+
+-- a disk has a label, and a side with an open root and a header that the limits allow
+abbrev pub HasSomeHeader : List (List Byte) → Type 0
+HasSomeHeader image = (layout : Layout) × (side : Side) × (layout_in image ≡ Ok layout) × HasGoodHeader layout side image
+
+-- a disk is damaged, and a side has an open root and a header that the limits allow
+abbrev pub IsDamagedWithHeader : (A : Type 0) → List (List Byte) → Type 0
+IsDamagedWithHeader A image = (at : Sector) × (opens A image ≡ Err (Damaged at)) × HasSomeHeader image
+
 -- A disk is damaged, and nothing is left of it.
 pub record HasNoRest (A : Type 0) (image : List (List Byte)) : Type 0 where
   pub at : Sector
@@ -212,3 +276,12 @@ pub record HasNoRest (A : Type 0) (image : List (List Byte)) : Type 0 where
   pub label : layout_in image ≡ Ok layout
   pub greater : IsGreaterSide A layout image side
   pub nothing : NothingIsLeft layout side image
+
+module _ (A : Type 0) (image : List (List Byte)) where
+  -- this is left of a disk, or nothing is
+  abbrev pub IsDiskRest : Option (Rest A) → Type 0
+  IsDiskRest found = MatchOption found (HasNoRest A image) (λ rest. IsRestOf A image rest.side rest.epoch rest.left_out rest.register rest.stop)
+
+  -- so many records can be read after the one at which those of the side end
+  abbrev pub HasLaterOnDisk : Rest A → Type 0
+  HasLaterOnDisk rest = AreLaterOnDisk A image rest.side rest.stop rest.later

@@ -1,8 +1,9 @@
 -- What a store is as a desk.
-use Rattle.std.specs.Prelude.{◌≡◌, ◌⊎◌, ℕ, Bool, true, false, IsTrue, List, ◌++◌, if◌then◌else◌, is_some, nat_le}
+use Rattle.std.specs.Prelude.{◌≡◌, ◌⊎◌, ℕ, Bool, true, false, IsTrue, List, ◌++◌, OnOk, Result, if◌then◌else◌, is_some, nat_le}
 use Rattle.identity.specs.Numbers.{Byte}
 use Rattle.sector_disk.specs.Disk.{View}
 use Rattle.sector_disk.specs.Run.{HasCalled, HasMade}
+use Rattle.sector_disk.specs.declared.disk.Disk.{Ghosts}
 use Rattle.sector_disk.specs.declared.record.Call.{Call}
 use Rattle.centre_core.specs.Asked.{Asked}
 use Rattle.centre_core.specs.State.{State}
@@ -17,13 +18,14 @@ use Rattle.desk.specs.declared.outage.Outage.{Outage}
 use Rattle.desk.specs.declared.outage.Outage.TheVariants as outage
 use Rattle.recovery.specs.Calls.{commit_calls_by, room_calls_by}
 use Rattle.recovery.specs.AfterCommit.{HasKept, with_room}
-use Rattle.recovery.specs.Lives.{StoreView}
-use Rattle.recovery.specs.Outcomes.{AreRecorded}
+use Rattle.recovery.specs.Lives.{StaysKept, StopsLeave, StoreView}
+use Rattle.recovery.specs.Outcomes.{AreRecorded, OpensToEither}
 use Rattle.recovery.specs.UnderWay.{MayBegin}
+use Rattle.recovery.specs.declared.store.Store.{Store}
 use Rattle.recovery.specs.declared.fault.StoreFault.{StoreFault}
 use Rattle.recovery.specs.declared.fault.StoreFault.TheVariants.{BadGeometry, Broken, Damaged, DiskFault, EpochsUsedUp, NoMemory, Unformatted, Unready}
 
--- The outage word for a fault of a desk's commit. The other faults have none: only an opening or a commit reports them.
+-- The outage word for a fault of a desk's commit. The other faults have none: a desk does not report them.
 abbrev pub IsWordFor : StoreFault → Outage → Type 0
 IsWordFor DiskFault word = word ≡ outage.Device
 IsWordFor Broken word = word ≡ outage.Broken
@@ -49,9 +51,20 @@ stored_of failures epoch broken before register = record {
   last = nat_le last_epoch epoch;
 }
 
+-- the model of this store
+abbrev pub stored_in : {A D : Type 0} {g : Ghosts D} → (D → View) → Store A D g → Stored
+stored_in view store = stored_of (view store.disk).failures store.epoch store.broken store.before.value store.register
+
 -- nothing was done, or the command was accepted
 abbrev pub IsAfterOne : {B : Type 0} → State → Asked B → State → Type 0
 IsAfterOne s c t = (t ≡ s) ⊎ (IsTrue (accepts s c) × (t ≡ next s c))
+
+-- What is on the disk: the register is as before, or the command was accepted. Each stop leaves a disk that opens to one of the two,
+-- and after the call to the register then, unless the disk has failed.
+pub record HoldsOne {B D : Type 0} (A : Type 0) (view : D → View) (old new : StoreView A D) (command : Asked B) : Type 0 where
+  pub register : IsAfterOne old.register command new.register
+  pub any_moment : StopsLeave A view old new (OpensToEither A old.register new.register)
+  pub kept : new.broken ≡ false → StaysKept A view old new
 
 module _ {A D : Type 0} (old : StoreView A D) (fits : Bool) (kept : List (Asked A)) (begins : Bool) where
   -- a checkpoint that begins after the record may begin
@@ -70,31 +83,21 @@ module _ {A D : Type 0} (old : StoreView A D) (fits : Bool) (kept : List (Asked 
   abbrev pub desk_calls : List (List Byte) → Bool → List Call
   desk_calls reads also_open = desk_calls_by (is_root_open (other_of old.side) reads) (if fits then is_root_open (other_of old.side) reads else also_open)
 
-module _ {D : Type 0} (A : Type 0) (view : D → View) (old new : StoreView A D) (fits : Bool) {B : Type 0} (commands : List (Asked B)) where
-  -- the calls of a desk that keeps the accepted ones of these commands, on an honest disk
-  abbrev pub DeskCalls : Type 0
-  DeskCalls =
-      (view old.disk).honest → (recorded : List (Asked A)) × (also_open : Bool)
+-- The calls of a desk that keeps the accepted ones of these commands: all calls of one that answers `Ok`, a prefix of them however
+-- it ends (a call that fails is the last), and the same on any disk, with the writes of the other side's root or without them.
+pub record DeskCalls {D B T E : Type 0} (A : Type 0) (view : D → View) (old new : StoreView A D) (fits : Bool) (commands : List (Asked B))
+    (result : Result T E) : Type 0 where
+  pub calls : OnOk result ((view old.disk).honest → (recorded : List (Asked A)) × (also_open : Bool)
       × AreRecorded A old.register commands new.register recorded × HasKept (with_room fits old) new recorded
-      × HasCalled (view old.disk) (view new.disk) (desk_calls old fits recorded (is_some new.ongoing) (view old.disk).reads also_open)
-
-  -- those on any disk, with the writes of the other side's root or without them
-  abbrev pub DeskCallsOnAnyDisk : Type 0
-  DeskCallsOnAnyDisk =
-      (recorded : List (Asked A)) × (was_open : Bool) × (also_open : Bool)
-      × AreRecorded A old.register commands new.register recorded × HasKept (with_room fits old) new recorded
-      × HasCalled (view old.disk) (view new.disk) (desk_calls_by old fits recorded (is_some new.ongoing) was_open also_open)
-
-  -- a prefix of them: a call that fails is the last
-  abbrev pub SomeDeskCalls : Type 0
-  SomeDeskCalls =
+      × HasCalled (view old.disk) (view new.disk) (desk_calls old fits recorded (is_some new.ongoing) (view old.disk).reads also_open))
+  pub some_calls :
       (view old.disk).honest → (recorded : List (Asked A)) × (begins : Bool) × (also_open : Bool)
       × AreRecorded A old.register commands new.register recorded × MayBeginBy old fits recorded begins
       × HasMade (view old.disk) (view new.disk) (desk_calls old fits recorded begins (view old.disk).reads also_open)
-
-  -- a prefix of the calls on any disk
-  abbrev pub SomeDeskCallsOnAnyDisk : Type 0
-  SomeDeskCallsOnAnyDisk =
+  pub calls_on_any_disk : OnOk result ((recorded : List (Asked A)) × (was_open : Bool) × (also_open : Bool)
+      × AreRecorded A old.register commands new.register recorded × HasKept (with_room fits old) new recorded
+      × HasCalled (view old.disk) (view new.disk) (desk_calls_by old fits recorded (is_some new.ongoing) was_open also_open))
+  pub some_calls_on_any_disk :
       (recorded : List (Asked A)) × (begins : Bool) × (was_open : Bool) × (also_open : Bool)
       × AreRecorded A old.register commands new.register recorded × MayBeginBy old fits recorded begins
       × HasMade (view old.disk) (view new.disk) (desk_calls_by old fits recorded begins was_open also_open)

@@ -1,13 +1,10 @@
 // Applying a batch of commands to a register.
-ghost use Rattle.std.specs.Prelude.{◌≡◌, ◌≤◌, ◌<◌, ◌+◌, ◌-◌, ◌++◌, ◌∷◌, ℕ, [], IsTrue, OnErr, OnOk, length, map, replicate, vec_capacity, vec_len};
-ghost use Rattle.std.specs.List.{flat_map};
+ghost use Rattle.std.specs.Prelude.{◌≡◌, ◌≤◌, ◌<◌, ◌+◌, ◌-◌, ◌++◌, ◌∷◌, [], IsTrue, OnErr, OnOk, length, map, replicate, vec_capacity, vec_len};
 ghost use Rattle.centre_core.specs.Batches.{replies, taken};
-ghost use Rattle.centre_core.specs.History.{after, next};
-ghost use Rattle.centre_core.specs.Histories.{IsHistory};
+ghost use Rattle.centre_core.specs.History.{next};
 ghost use Rattle.centre_core.specs.Memory.{needs_memory};
-ghost use Rattle.command_bytes.specs.Text.{command_text};
-ghost use Rattle.gated_journal.specs.Record.{given};
-ghost use Rattle.recovery.specs.Outcomes.{AreApplied, AreRecorded, IsAnswered, IsEnd, asked};
+ghost use Rattle.recovery.specs.Inside.Applied.{AreAccepted, AreAppliedInPart};
+ghost use Rattle.recovery.specs.Outcomes.{AreApplied, IsAnswered, asked};
 ghost use Rattle.recovery.specs.declared.outcome.Outcome.TheVariants.{NoMemory, Replied};
 
 use crate::Outcome;
@@ -16,7 +13,7 @@ use std::alloc::{AllocError, Allocator};
 
 // Applies a command and adds its reply to the outcomes. If the command is accepted, it is added to the accepted ones.
 // Both lists have room. Out of memory, nothing is changed.
-fn apply_one<'a, A: Allocator + Clone, B: Allocator, C: Allocator + Copy>(
+fn apply_one<'a, A: Allocator + Copy, B: Allocator, C: Allocator + Copy>(
     register: &mut Register<A>,
     alloc: C,
     command: &'a Command<B>,
@@ -32,7 +29,8 @@ fn apply_one<'a, A: Allocator + Clone, B: Allocator, C: Allocator + Copy>(
     ensures also_places { vec_len accepted.new ≤ vec_len accepted.old + 1 }
     ensures capacity { vec_capacity outcomes.old ≤ vec_capacity outcomes.new }
     ensures also_capacity { vec_capacity accepted.old ≤ vec_capacity accepted.new }
-    ensures same { OnErr result ((register.new ≡ register.old) × (outcomes.new.items ≡ outcomes.old.items) × (accepted.new.items ≡ accepted.old.items)) }
+    ensures same { OnErr result ((register.new ≡ register.old) × (outcomes.new.items ≡ outcomes.old.items)
+        × (accepted.new.items ≡ accepted.old.items)) }
     ensures memory { OnErr result (IsTrue (needs_memory register.old command.now)) }
 {
     let reply = register.apply(alloc, command)?;
@@ -44,7 +42,7 @@ fn apply_one<'a, A: Allocator + Clone, B: Allocator, C: Allocator + Copy>(
 }
 
 // Applies commands in turn, up to the first one that runs out of memory. Both lists are empty, with room for all.
-fn apply_in_turn<'a, A: Allocator + Clone, B: Allocator, C: Allocator + Copy>(
+fn apply_in_turn<'a, A: Allocator + Copy, B: Allocator, C: Allocator + Copy>(
     register: &mut Register<A>,
     alloc: C,
     commands: &[&'a Command<B>],
@@ -56,9 +54,7 @@ fn apply_in_turn<'a, A: Allocator + Clone, B: Allocator, C: Allocator + Copy>(
     requires room { length commands.now ≤ vec_capacity outcomes.old }
     requires also { length commands.now ≤ vec_capacity accepted.old }
     ensures all { OnOk result (AreApplied register.old (asked commands.now) (length commands.now) register.new outcomes.new.items (asked accepted.new.items)) }
-    ensures some { OnErr result ((applied : ℕ)
-        × AreApplied register.old (asked commands.now) applied register.new outcomes.new.items (asked accepted.new.items)
-        × IsEnd (asked commands.now) applied register.new) }
+    ensures some { OnErr result (AreAppliedInPart register.old (asked commands.now) register.new outcomes.new.items (asked accepted.new.items)) }
     ensures capacity { vec_capacity outcomes.old ≤ vec_capacity outcomes.new }
 {
     for command in commands {
@@ -80,7 +76,7 @@ fn fill_up<C: Allocator>(outcomes: &mut Vec<Outcome<C>, C>, count: usize)
 
 /// Applies commands in turn, up to the first one that runs out of memory. Gives each command its outcome, and collects
 /// the accepted ones. Both lists are empty, with room for all.
-pub(crate) fn apply_all<'a, A: Allocator + Clone, B: Allocator, C: Allocator + Copy>(
+pub(crate) fn apply_all<'a, A: Allocator + Copy, B: Allocator, C: Allocator + Copy>(
     register: &mut Register<A>,
     alloc: C,
     commands: &[&'a Command<B>],
@@ -92,15 +88,7 @@ pub(crate) fn apply_all<'a, A: Allocator + Clone, B: Allocator, C: Allocator + C
     requires room { length commands.now ≤ vec_capacity outcomes.old }
     requires also { length commands.now ≤ vec_capacity accepted.old }
     ensures answered { IsAnswered register.old (asked commands.now) register.new outcomes.new.items }
-    ensures history { IsHistory register.old (asked accepted.new.items) }
-    ensures state { register.new ≡ after register.old (asked accepted.new.items) }
-    ensures limits { register.new.registered.limits ≡ register.old.registered.limits }
-    ensures count { length accepted.new.items ≤ length commands.now }
-    ensures counted { register.new.count ≡ register.old.count + length accepted.new.items }
-    ensures size { length (flat_map (λ command. command_text command.now) accepted.new.items)
-        ≤ length (flat_map (λ command. command_text command.now) commands.now) }
-    ensures none { taken register.old (asked commands.now) ≡ [] → accepted.new.items ≡ [] }
-    ensures recorded { AreRecorded A register.old (asked commands.now) register.new (given A accepted.new.items) }
+    ensures accepted { AreAccepted A register.old register.new commands.now accepted.new.items }
 {
     let _ = apply_in_turn(register, alloc, commands, outcomes, accepted);
     fill_up(outcomes, commands.len());

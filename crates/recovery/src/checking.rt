@@ -1,17 +1,17 @@
 //! A check of a disk: what is damaged on each side, and what opening makes of it.
-ghost use Rattle.std.specs.Prelude.{◌≡◌, ◌⊎◌, ◌++◌, ◌∷◌, ◌≤◌, ◌<◌, ◌||◌, ℕ, [], IfErr, IfOk, IsErrOf, Ok};
-ghost use Rattle.sector_disk.specs.Disk.{HasFailed, IsImageOf};
-ghost use Rattle.sector_disk.specs.Reading.{before_reads};
-ghost use Rattle.sector_disk.specs.Run.{HasOnlyRead, LeavesOnly};
+ghost use Rattle.std.specs.Prelude.{◌≡◌, ◌⊎◌, ◌≤◌, ◌<◌, ◌||◌, ◌++◌, ◌∷◌, ℕ, [], IfErr, IfOk, IsErrOf, Ok};
+ghost use Rattle.sector_disk.specs.Disk.{IsImageOf};
+ghost use Rattle.sector_disk.specs.Effects.{KeepsDisk};
+ghost use Rattle.sector_disk.specs.Run.{LeavesOnly};
 ghost use Rattle.sector_disk.specs.declared.record.Call.TheVariants.{Sync};
 ghost use Rattle.checkpoint.specs.Layout.{disk_size};
-ghost use Rattle.checkpoint.specs.OnSide.{ReadsForm};
 ghost use Rattle.recovery.specs.declared.fault.StoreFault.TheVariants.{Damaged, DiskFault, NoMemory};
-ghost use Rattle.recovery.specs.Checking.{HasGoodSideSoFar, IsDamagedAt, IsGoodSideSoFar, IsOfCheck};
-ghost use Rattle.recovery.specs.Checking.{checked_in, epoch_of, is_damaged, opened_by, state_after, state_by, state_in, taken_from};
+ghost use Rattle.recovery.specs.Checking.{HasNoDamageYet, HasSynced, HasSyncedUnless, IsCheckOf, IsDamagedAt, IsGoodSideSoFar, IsNoDamage};
+ghost use Rattle.recovery.specs.Checking.{damaged_sector, epoch_of, first_damaged, is_damaged, opened_by, state_after, state_in, taken_from};
 ghost use Rattle.recovery.specs.Lives.{Answered, Closed, IsCall};
-ghost use Rattle.recovery.specs.Opening.{AreGoodSoFar, Gives, IsOfOpening};
-ghost use Rattle.recovery.specs.Opens.{opens_by};
+ghost use Rattle.recovery.specs.Opening.{Gives, IsOfOpening};
+ghost use Rattle.recovery.specs.Inside.Current.{InForm, IsGoodSide, state_from};
+ghost use Rattle.recovery.specs.Inside.Reads.{ReadsOrFails};
 
 use crate::figures::figures_by;
 use crate::label::read_layout;
@@ -39,6 +39,16 @@ impl SideState {
         ensures { result ≡ is_damaged self.now }
     {
         matches!(self, SideState::Damaged { .. })
+    }
+
+    /// The first damaged sector of the side, if it has one.
+    pub fn damaged_sector(&self) -> Option<u64>
+        ensures { result ≡ damaged_sector self.now }
+    {
+        match self {
+            SideState::Damaged { sector, .. } => Some(*sector),
+            SideState::Unused | SideState::Whole(_) => None,
+        }
     }
 
     // The epoch of a side whose root is open, or its header, which could not be read.
@@ -104,12 +114,19 @@ impl Checked {
     {
         self.a.is_damaged() || self.b.is_damaged()
     }
+
+    /// The first damaged sector of side A, or else of side B.
+    pub fn first_damaged(&self) -> Option<u64>
+        ensures { result ≡ first_damaged self.now.a self.now.b }
+    {
+        self.a.damaged_sector().or(self.b.damaged_sector())
+    }
 }
 
 // A fault of reading a side: damage is the state of the side, another fault stays one.
 fn state_after(epoch: Option<u64>, fault: StoreFault) -> Result<SideState, StoreFault>
     ensures value { result ≡ state_after epoch fault }
-    ensures kinds { IsOfOpening fault → IfErr result IsOfCheck }
+    ensures kinds { IsOfOpening fault → IfErr result IsNoDamage }
     ensures same { IfErr result (λ e. e ≡ fault) }
     ensures damaged { (at : ℕ) → IfOk result (λ state. IsDamagedAt at state → fault ≡ Damaged at) }
 {
@@ -128,17 +145,12 @@ fn check_contents<A: Allocator + Copy, D: Disk>(
     epoch: u64,
 ) -> Result<SideState, StoreFault>
     requires room { disk_size layout.now ≤ (D.view disk.old).sectors }
-    ensures exact { (D.view disk.old).honest → ReadsForm layout.now current.side current.form (D.view disk.old)
-        → Gives (λ state. state) result (Ok (state_by epoch (D.view disk.old).reads (opens_by A layout.now current.side (D.view disk.old).reads))) }
-    ensures memory { IsErrOf result NoMemory → (D.view disk.old).honest → ReadsForm layout.now current.side current.form (D.view disk.old)
-        → AreGoodSoFar A layout.now current.side (D.view disk.old).reads (D.view disk.new).calls }
-    ensures kinds { IfErr result IsOfCheck }
+    ensures exact { (D.view disk.old).honest → InForm layout.now current (D.view disk.old)
+        (Gives (λ state. state) result (Ok (state_from A layout.now current epoch (D.view disk.old)))) }
+    ensures memory { IsErrOf result NoMemory → (D.view disk.old).honest → InForm layout.now current (D.view disk.old)
+        (IsGoodSide A layout.now current (D.view disk.old) (D.view disk.new)) }
     ensures on_disk { (at : ℕ) → IfOk result (λ state. IsDamagedAt at state → at < (D.view disk.old).sectors) }
-    ensures only_read { (D.view disk.old).honest → HasOnlyRead (D.view disk.old) (D.view disk.new) }
-    ensures only_reads { before_reads (D.view disk.new).calls ≡ before_reads (D.view disk.old).calls }
-    ensures fault { IsErrOf result DiskFault → HasFailed (D.view disk.old) (D.view disk.new) }
-    ensures sectors { (D.view disk.new).sectors ≡ (D.view disk.old).sectors }
-    ensures later { (D.view disk.old).failures ≤ (D.view disk.new).failures }
+    ensures reads { ReadsOrFails IsNoDamage (D.view disk.old) (D.view disk.new) result }
 {
     match read_current(alloc, disk, *layout, current) {
         Ok(opened) => {
@@ -162,14 +174,9 @@ fn check_side<A: Allocator + Copy, D: Disk>(
     requires room { disk_size layout.now ≤ (D.view disk.old).sectors }
     ensures exact { (D.view disk.old).honest → Gives (λ state. state) result (Ok (state_in A layout.now side (D.view disk.old).reads)) }
     ensures memory { IsErrOf result NoMemory → (D.view disk.old).honest
-        → IsGoodSideSoFar A layout.now side (D.view disk.old).reads (D.view disk.new).calls }
-    ensures kinds { IfErr result IsOfCheck }
+        → IsGoodSideSoFar A layout.now side (D.view disk.old).reads (D.view disk.old).calls (D.view disk.new).calls }
     ensures on_disk { (at : ℕ) → IfOk result (λ state. IsDamagedAt at state → at < (D.view disk.old).sectors) }
-    ensures only_read { (D.view disk.old).honest → HasOnlyRead (D.view disk.old) (D.view disk.new) }
-    ensures only_reads { before_reads (D.view disk.new).calls ≡ before_reads (D.view disk.old).calls }
-    ensures fault { IsErrOf result DiskFault → HasFailed (D.view disk.old) (D.view disk.new) }
-    ensures sectors { (D.view disk.new).sectors ≡ (D.view disk.old).sectors }
-    ensures later { (D.view disk.old).failures ≤ (D.view disk.new).failures }
+    ensures reads { ReadsOrFails IsNoDamage (D.view disk.old) (D.view disk.new) result }
 {
     match read_head(disk, layout, side) {
         Ok(None) => Ok(SideState::Unused),
@@ -179,54 +186,51 @@ fn check_side<A: Allocator + Copy, D: Disk>(
 }
 
 // The layout of the disk and the states of its sides, one after the other.
-#[tactic(auto, unfolding(crate::specs::Checking::checked_in))]
 fn check_sides<A: Allocator + Copy, D: Disk>(alloc: A, disk: &mut D) -> Result<Checked, StoreFault>
-    ensures exact { (D.view disk.old).honest → Gives (λ checked. checked) result (checked_in A (D.view disk.old).reads) }
-    ensures memory { IsErrOf result NoMemory → (D.view disk.old).honest → HasGoodSideSoFar A (D.view disk.old).reads (D.view disk.new).calls }
+    ensures exact { (D.view disk.old).honest → IsCheckOf A (D.view disk.old).reads result }
+    ensures memory { IsErrOf result NoMemory → (D.view disk.old).honest
+        → HasNoDamageYet A (D.view disk.old).reads (D.view disk.old).calls (D.view disk.new).calls }
     ensures room { IfOk result (λ checked. disk_size checked.layout ≤ (D.view disk.old).sectors) }
-    ensures kinds { IfErr result IsOfCheck }
     ensures on_disk { (at : ℕ) → IfOk result (λ checked. IsDamagedAt at checked.a ⊎ IsDamagedAt at checked.b → at < (D.view disk.old).sectors) }
-    ensures only_read { (D.view disk.old).honest → HasOnlyRead (D.view disk.old) (D.view disk.new) }
-    ensures only_reads { before_reads (D.view disk.new).calls ≡ before_reads (D.view disk.old).calls }
-    ensures fault { IsErrOf result DiskFault → HasFailed (D.view disk.old) (D.view disk.new) }
-    ensures sectors { (D.view disk.new).sectors ≡ (D.view disk.old).sectors }
-    ensures later { (D.view disk.old).failures ≤ (D.view disk.new).failures }
+    ensures reported_on_disk { (at : ℕ) → IsErrOf result (Damaged at) → at < (D.view disk.old).sectors }
+    ensures reads { ReadsOrFails IsOfOpening (D.view disk.old) (D.view disk.new) result }
 {
     let layout = read_layout(disk)?;
     let a = check_side(alloc, disk, &layout, Side::A)?;
-    let b = check_side(alloc, disk, &layout, Side::B)?;
-    Ok(Checked { layout, a, b })
+    match check_side(alloc, disk, &layout, Side::B) {
+        Ok(b) => Ok(Checked { layout, a, b }),
+        Err(fault) => Err(fault.unless_damaged(a.damaged_sector())),
+    }
 }
 
 /// Reads both sides of a disk, as opening reads one, and returns what is on each or its first damaged sector. `damage_of` finds
 /// those after it. The disk is synced first, and then only read. At most one register is in memory, under `alloc`.
 ///
-/// `Unformatted` and `BadGeometry` report a disk without a layout. It never returns `Damaged`: damage is in the states.
+/// `Unformatted` and `BadGeometry` report a disk without a layout. `Damaged` is the first damaged sector of side A, where memory ran out
+/// after it was found. Other damage is in the states.
 pub fn check<A: Allocator + Copy, D: Disk>(alloc: A, disk: &mut D) -> Result<Checked, StoreFault>
-    // The states are those of the disk as it reads.
-    ensures exact { (D.view disk.old).honest → Gives (λ checked. checked) result (checked_in A (D.view disk.old).reads) }
+    // The states are those of the disk as it reads, and so is damage that is reported as a fault.
+    ensures exact { (D.view disk.old).honest → IsCheckOf A (D.view disk.old).reads result }
 
     // It calls one sync and then only reads. With a `DiskFault` there may be no call.
-    ensures calls { IfOk result (λ checked. before_reads (D.view disk.new).calls ≡ (D.view disk.old).calls ++ Sync ∷ []) }
-    ensures some_calls { IfErr result (λ fault. (before_reads (D.view disk.new).calls ≡ (D.view disk.old).calls ++ Sync ∷ [])
-        ⊎ ((fault ≡ DiskFault) × ((D.view disk.new).calls ≡ (D.view disk.old).calls))) }
+    ensures calls { IfOk result (λ checked. HasSynced (D.view disk.old) (D.view disk.new)) }
+    ensures some_calls { IfErr result (HasSyncedUnless (D.view disk.old) (D.view disk.new)) }
     ensures left { (D.view disk.old).honest → LeavesOnly (D.view disk.old) (D.view disk.new) (IsImageOf (D.view disk.old)) }
     ensures reads { (D.view disk.old).honest → (D.view disk.new).reads ≡ (D.view disk.old).reads }
 
     // The disk has a sector for each of the layout, and a damaged sector is one of them, even if the disk is not honest.
     ensures room { IfOk result (λ checked. disk_size checked.layout ≤ (D.view disk.old).sectors) }
     ensures on_disk { (at : ℕ) → IfOk result (λ checked. IsDamagedAt at checked.a ⊎ IsDamagedAt at checked.b → at < (D.view disk.old).sectors) }
+    ensures reported_on_disk { (at : ℕ) → IsErrOf result (Damaged at) → at < (D.view disk.old).sectors }
 
-    // Out of memory never masks damage to the side that was read last: after its rows, all its records are judged before it is
-    // reported. Damage to the side before is not reported then.
-    ensures memory { IsErrOf result NoMemory → (D.view disk.old).honest → HasGoodSideSoFar A (D.view disk.old).reads (D.view disk.new).calls }
+    // Out of memory never masks damage that was read. Either only good rows were read of side A after its header, or all its rows and all its
+    // records are good; this is counted from the sync on. Or side A is not damaged, and the same is so of side B.
+    ensures memory { IsErrOf result NoMemory → (D.view disk.old).honest
+        → HasNoDamageYet A (D.view disk.old).reads ((D.view disk.old).calls ++ Sync ∷ []) (D.view disk.new).calls }
 
     // It fails only for these reasons.
-    ensures fault { IsErrOf result DiskFault → HasFailed (D.view disk.old) (D.view disk.new) }
-    ensures kinds { IfErr result IsOfCheck }
-    ensures sectors { (D.view disk.new).sectors ≡ (D.view disk.old).sectors }
-    ensures later { (D.view disk.old).failures ≤ (D.view disk.new).failures }
-    ensures honest { (D.view disk.old).honest → (D.view disk.new).honest }
+    ensures kinds { IfErr result IsOfOpening }
+    ensures keeps { KeepsDisk (D.view disk.old) (D.view disk.new) (IsErrOf result DiskFault) }
 
     // In the life of the disk this is a call that accepts nothing.
     ensures call { (D.view disk.old).honest → IsCall A D.view (Closed disk.old) (Answered []) (Closed disk.new) }

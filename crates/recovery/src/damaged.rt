@@ -1,15 +1,13 @@
 //! The damaged sectors of a side: the one at which opening stops, and those after it.
-ghost use Rattle.std.specs.Prelude.{◌≡◌, ◌++◌, ◌∷◌, ◌+◌, ◌-◌, ◌<◌, ◌≤◌, ◌^◌, [], ℕ, IfErr, IfOk, IfSome, IsErrOf, OnOk, true};
-ghost use Rattle.sector_disk.specs.Disk.{HasFailed};
-ghost use Rattle.sector_disk.specs.Reading.{before_reads};
-ghost use Rattle.sector_disk.specs.Run.{HasOnlyRead};
+ghost use Rattle.std.specs.Prelude.{◌≡◌, ◌++◌, ◌∷◌, ◌+◌, ◌<◌, ◌≤◌, ◌^◌, [], ℕ, IfErr, IfOk, IfSome, IsErrOf, IsOk, OnOk, false};
+ghost use Rattle.sector_disk.specs.Effects.{OnlyReads};
 ghost use Rattle.image_rows.specs.Rows.{row_count};
-ghost use Rattle.image_rows.specs.Loading.{header_may};
 ghost use Rattle.checkpoint.specs.Layout.{disk_size};
 ghost use Rattle.recovery.specs.declared.fault.StoreFault.TheVariants.{DiskFault};
-ghost use Rattle.recovery.specs.Checking.{IsDamagedAt};
-ghost use Rattle.recovery.specs.Damage.{Begins, IsOfDamage, IsOfState, KeepsFirst, after_header, after_row, damage, damage_from, damage_in};
-ghost use Rattle.recovery.specs.Damage.{named, record_damage, row_damage, rows_damage};
+ghost use Rattle.recovery.specs.Checking.{IsDamagedAt, is_damaged};
+ghost use Rattle.recovery.specs.Damage.{Begins, IsOfDamage, IsOfState, KeepsFirst, damage, damage_from, damage_in, named, record_damage, row_damage};
+ghost use Rattle.recovery.specs.Inside.Damaged.{AddsDamage, IsStop, damage_at, row_damage_from, rows_from};
+ghost use Rattle.recovery.specs.Inside.Reads.{ReadsOrFails};
 
 use crate::row_faults::{fault_at, fault_of_first, kind_at};
 use crate::stated::{bad_record, header_may, read_header, read_record_kind, record_fault};
@@ -100,14 +98,8 @@ fn add_row<A: Allocator, D: Disk>(
 ) -> Result<(), StoreFault>
     requires inside { slot + place < (D.view disk.old).sectors }
     requires fits { slot + place < 2 ^ 64 }
-    ensures added { OnOk result ((D.view disk.old).honest → found.new.items ≡ found.old.items ++ row_damage (D.view disk.old).reads slot header.now place) }
-    ensures first { OnOk result (KeepsFirst found.old.items found.new.items) }
-    ensures kinds { IfErr result IsOfDamage }
-    ensures only_read { (D.view disk.old).honest → HasOnlyRead (D.view disk.old) (D.view disk.new) }
-    ensures only_reads { before_reads (D.view disk.new).calls ≡ before_reads (D.view disk.old).calls }
-    ensures fault { IsErrOf result DiskFault → HasFailed (D.view disk.old) (D.view disk.new) }
-    ensures sectors { (D.view disk.new).sectors ≡ (D.view disk.old).sectors }
-    ensures later { (D.view disk.old).failures ≤ (D.view disk.new).failures }
+    ensures adds { AddsDamage (D.view disk.old) found.old.items found.new.items (row_damage (D.view disk.old).reads slot header.now place) result }
+    ensures reads { ReadsOrFails IsOfDamage (D.view disk.old) (D.view disk.new) result }
 {
     let mut bytes = [0; 512];
     disk.read(slot + place, &mut bytes)?;
@@ -126,15 +118,8 @@ fn add_rows<A: Allocator, D: Disk>(
 ) -> Result<(), StoreFault>
     requires inside { slot + row_count header.now ≤ (D.view disk.old).sectors }
     requires fits { slot + row_count header.now < 2 ^ 64 }
-    ensures added { OnOk result ((D.view disk.old).honest → found.new.items
-        ≡ found.old.items ++ rows_damage (D.view disk.old).reads slot header.now from (row_count header.now - from)) }
-    ensures first { OnOk result (KeepsFirst found.old.items found.new.items) }
-    ensures kinds { IfErr result IsOfDamage }
-    ensures only_read { (D.view disk.old).honest → HasOnlyRead (D.view disk.old) (D.view disk.new) }
-    ensures only_reads { before_reads (D.view disk.new).calls ≡ before_reads (D.view disk.old).calls }
-    ensures fault { IsErrOf result DiskFault → HasFailed (D.view disk.old) (D.view disk.new) }
-    ensures sectors { (D.view disk.new).sectors ≡ (D.view disk.old).sectors }
-    ensures later { (D.view disk.old).failures ≤ (D.view disk.new).failures }
+    ensures adds { AddsDamage (D.view disk.old) found.old.items found.new.items (rows_from (D.view disk.old).reads slot header.now from) result }
+    ensures reads { ReadsOrFails IsOfDamage (D.view disk.old) (D.view disk.new) result }
 {
     let rows = 1
         + u64::from(header.rules)
@@ -172,14 +157,8 @@ fn add_record<A: Allocator, D: Disk>(
     found: &mut Vec<Damage, A>,
 ) -> Result<(), StoreFault>
     requires inside { IfSome bad (λ at. at < (D.view disk.old).sectors) }
-    ensures added { OnOk result ((D.view disk.old).honest → found.new.items ≡ found.old.items ++ record_damage layout.now side (D.view disk.old).reads bad) }
-    ensures first { OnOk result (KeepsFirst found.old.items found.new.items) }
-    ensures kinds { IfErr result IsOfDamage }
-    ensures only_read { (D.view disk.old).honest → HasOnlyRead (D.view disk.old) (D.view disk.new) }
-    ensures only_reads { before_reads (D.view disk.new).calls ≡ before_reads (D.view disk.old).calls }
-    ensures fault { IsErrOf result DiskFault → HasFailed (D.view disk.old) (D.view disk.new) }
-    ensures sectors { (D.view disk.new).sectors ≡ (D.view disk.old).sectors }
-    ensures later { (D.view disk.old).failures ≤ (D.view disk.new).failures }
+    ensures adds { AddsDamage (D.view disk.old) found.old.items found.new.items (record_damage layout.now side (D.view disk.old).reads bad) result }
+    ensures reads { ReadsOrFails IsOfDamage (D.view disk.old) (D.view disk.new) result }
 {
     let Some(at) = bad else {
         return Ok(());
@@ -205,20 +184,11 @@ fn after_row<A: Allocator, D: Disk>(
     side: Side,
     stop: &Stop,
 ) -> Result<Vec<Damage, A>, StoreFault>
-    requires room { disk_size layout.now ≤ (D.view disk.old).sectors }
-    requires may { header_may layout.now.limits stop.now.header ≡ true }
-    requires first { stop.now.first < (D.view disk.old).sectors }
+    requires stop { IsStop layout.now stop.now (D.view disk.old) }
     requires next { stop.now.first + 1 < 2 ^ 64 }
-    requires bad { IfSome stop.now.bad (λ at. at < (D.view disk.old).sectors) }
-    ensures exact { IfOk result (λ found. (D.view disk.old).honest
-        → found.items ≡ after_row layout.now side (D.view disk.old).reads stop.now.header stop.now.first stop.now.bad) }
+    ensures exact { IfOk result (λ found. (D.view disk.old).honest → found.items ≡ row_damage_from layout.now side (D.view disk.old).reads stop.now) }
     ensures begins { IfOk result (λ found. Begins stop.now.first found.items) }
-    ensures kinds { IfErr result IsOfDamage }
-    ensures only_read { (D.view disk.old).honest → HasOnlyRead (D.view disk.old) (D.view disk.new) }
-    ensures only_reads { before_reads (D.view disk.new).calls ≡ before_reads (D.view disk.old).calls }
-    ensures fault { IsErrOf result DiskFault → HasFailed (D.view disk.old) (D.view disk.new) }
-    ensures sectors { (D.view disk.new).sectors ≡ (D.view disk.old).sectors }
-    ensures later { (D.view disk.old).failures ≤ (D.view disk.new).failures }
+    ensures reads { ReadsOrFails IsOfDamage (D.view disk.old) (D.view disk.new) result }
 {
     let mut bytes = [0; 512];
     disk.read(stop.first, &mut bytes)?;
@@ -239,19 +209,10 @@ fn after_header<A: Allocator, D: Disk>(
     side: Side,
     stop: &Stop,
 ) -> Result<Vec<Damage, A>, StoreFault>
-    requires room { disk_size layout.now ≤ (D.view disk.old).sectors }
-    requires may { header_may layout.now.limits stop.now.header ≡ true }
-    requires first { stop.now.first < (D.view disk.old).sectors }
-    requires bad { IfSome stop.now.bad (λ at. at < (D.view disk.old).sectors) }
-    ensures exact { IfOk result (λ found. (D.view disk.old).honest
-        → found.items ≡ after_header layout.now side (D.view disk.old).reads stop.now.first stop.now.header stop.now.bad) }
+    requires stop { IsStop layout.now stop.now (D.view disk.old) }
+    ensures exact { IfOk result (λ found. (D.view disk.old).honest → found.items ≡ damage_at layout.now side (D.view disk.old).reads stop.now) }
     ensures begins { IfOk result (λ found. Begins stop.now.first found.items) }
-    ensures kinds { IfErr result IsOfDamage }
-    ensures only_read { (D.view disk.old).honest → HasOnlyRead (D.view disk.old) (D.view disk.new) }
-    ensures only_reads { before_reads (D.view disk.new).calls ≡ before_reads (D.view disk.old).calls }
-    ensures fault { IsErrOf result DiskFault → HasFailed (D.view disk.old) (D.view disk.new) }
-    ensures sectors { (D.view disk.new).sectors ≡ (D.view disk.old).sectors }
-    ensures later { (D.view disk.old).failures ≤ (D.view disk.new).failures }
+    ensures reads { ReadsOrFails IsOfDamage (D.view disk.old) (D.view disk.new) result }
 {
     if stop.first < layout.half(Side::A) {
         return after_row(alloc, disk, layout, side, stop);
@@ -273,12 +234,7 @@ fn damage_from<A: Allocator + Copy, D: Disk>(
     requires first { first < (D.view disk.old).sectors }
     ensures exact { IfOk result (λ found. (D.view disk.old).honest → found.items ≡ damage_from A layout.now side (D.view disk.old).reads first) }
     ensures begins { IfOk result (λ found. Begins first found.items) }
-    ensures kinds { IfErr result IsOfDamage }
-    ensures only_read { (D.view disk.old).honest → HasOnlyRead (D.view disk.old) (D.view disk.new) }
-    ensures only_reads { before_reads (D.view disk.new).calls ≡ before_reads (D.view disk.old).calls }
-    ensures fault { IsErrOf result DiskFault → HasFailed (D.view disk.old) (D.view disk.new) }
-    ensures sectors { (D.view disk.new).sectors ≡ (D.view disk.old).sectors }
-    ensures later { (D.view disk.old).failures ≤ (D.view disk.new).failures }
+    ensures reads { ReadsOrFails IsOfDamage (D.view disk.old) (D.view disk.new) result }
 {
     let Some(stated) = read_header(disk, layout, side)? else {
         return alone(alloc, first, Kind::Header, Reason::Unreadable);
@@ -309,15 +265,12 @@ pub fn damage_of<A: Allocator + Copy, D: Disk>(
     ensures exact { IfOk result (λ found. (D.view disk.old).honest → found.items ≡ damage_in A layout.now side (D.view disk.old).reads state.now) }
     ensures begins { IfOk result (λ found. IsOfState state.now found.items) }
 
-    // It only reads.
-    ensures only_read { (D.view disk.old).honest → HasOnlyRead (D.view disk.old) (D.view disk.new) }
-    ensures only_reads { before_reads (D.view disk.new).calls ≡ before_reads (D.view disk.old).calls }
+    // Of a side that is not damaged it answers at once, and the disk is not called.
+    ensures at_once { is_damaged state.now ≡ false → IsOk result × (disk.new ≡ disk.old) }
 
-    // It fails only for a device that failed, or out of memory.
+    // It only reads, and fails only for a device that failed, or out of memory.
     ensures kinds { IfErr result IsOfDamage }
-    ensures fault { IsErrOf result DiskFault → HasFailed (D.view disk.old) (D.view disk.new) }
-    ensures sectors { (D.view disk.new).sectors ≡ (D.view disk.old).sectors }
-    ensures later { (D.view disk.old).failures ≤ (D.view disk.new).failures }
+    ensures reads { OnlyReads (D.view disk.old) (D.view disk.new) (IsErrOf result DiskFault) }
 {
     match state {
         SideState::Damaged { sector, .. } => damage_from(alloc, disk, layout, side, *sector),

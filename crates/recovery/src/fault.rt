@@ -1,6 +1,7 @@
 //! Why a call on a register that is kept on a disk is refused.
 ghost use Rattle.std.specs.Prelude.{◌≡◌};
 ghost use Rattle.recovery.specs.declared.fault.StoreFault.TheVariants.{DiskFault, NoMemory};
+ghost use Rattle.recovery.specs.Checking.{unless_damaged};
 ghost use Rattle.recovery.specs.Opening.{fault_of};
 
 use gated_journal::JournalError;
@@ -35,6 +36,19 @@ pub enum StoreFault {
     /// A record of all commands would not fit the journal: a checkpoint must be made first.
     #[error("the journal has no room: a checkpoint is to be made")]
     Unready,
+}
+
+impl StoreFault {
+    /// The fault to be reported of a disk with this damaged sector, if it has one: the damage, where memory ran out. So out of memory masks
+    /// no damage that was found.
+    pub fn unless_damaged(self, sector: Option<u64>) -> StoreFault
+        ensures { result ≡ unless_damaged sector self }
+    {
+        match (self, sector) {
+            (StoreFault::NoMemory, Some(sector)) => StoreFault::Damaged(sector),
+            _ => self,
+        }
+    }
 }
 
 impl From<DiskError> for StoreFault {

@@ -1,6 +1,7 @@
 //! Formatting a disk for an empty register.
 ghost use Rattle.std.specs.Prelude.{◌≡◌, ◌≤◌, ◌<◌, [], Err, IfErr, IsErrOf, List, Ok, OnOk};
 ghost use Rattle.sector_disk.specs.Disk.{HasCause, HasFailed};
+ghost use Rattle.sector_disk.specs.Effects.{KeepsDisk};
 ghost use Rattle.sector_disk.specs.Run.{HasCalled, HasMade};
 ghost use Rattle.sector_disk.specs.declared.disk.DiskError.TheVariants.{OutOfRange};
 ghost use Rattle.centre_core.specs.State.{empty};
@@ -97,10 +98,8 @@ pub fn format<A: Allocator, D: Disk>(disk: &mut D, layout: &Layout) -> Result<()
     // It fails only for these reasons.
     ensures geometry { (D.view disk.old).sectors < disk_size layout.now → (result ≡ Err BadGeometry) × (disk.new ≡ disk.old) }
     ensures fault { disk_size layout.now ≤ (D.view disk.old).sectors
-        → IfErr result (λ fault. (fault ≡ DiskFault) × HasFailed (D.view disk.old) (D.view disk.new)) }
-    ensures sectors { (D.view disk.new).sectors ≡ (D.view disk.old).sectors }
-    ensures later { (D.view disk.old).failures ≤ (D.view disk.new).failures }
-    ensures honest { (D.view disk.old).honest → (D.view disk.new).honest }
+        → IfErr result (λ e. (e ≡ DiskFault) × HasFailed (D.view disk.old) (D.view disk.new)) }
+    ensures keeps { KeepsDisk (D.view disk.old) (D.view disk.new) (IsErrOf result DiskFault) }
 
     // The life of the disk begins with the empty register.
     ensures begins { OnOk result ((D.view disk.old).honest → IsLife A D.view (empty layout.now.limits) [] (Closed disk.new)) }

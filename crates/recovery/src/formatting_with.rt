@@ -1,6 +1,7 @@
 //! A disk formatted for a register that is already there.
 ghost use Rattle.std.specs.Prelude.{◌≡◌, ◌≤◌, ◌<◌, [], Err, IfErr, IsErr, IsErrOf, Ok, OnOk};
 ghost use Rattle.sector_disk.specs.Disk.{HasFailed};
+ghost use Rattle.sector_disk.specs.Effects.{KeepsDisk};
 ghost use Rattle.sector_disk.specs.Run.{HasCalled, HasMade};
 ghost use Rattle.sector_disk.specs.declared.disk.DiskError.TheVariants.{OutOfRange};
 ghost use Rattle.gated_journal.specs.declared.form.Form.TheVariants.{Numbered};
@@ -31,11 +32,8 @@ fn fill_sides<A: Allocator + Clone, D: Disk>(
     ensures filled { OnOk result ((D.view disk.old).honest → AreFilled layout.now register.now (D.view disk.new)) }
     ensures calls { OnOk result (HasCalled (D.view disk.old) (D.view disk.new) (filled_calls layout.now register.now)) }
     ensures some_calls { HasMade (D.view disk.old) (D.view disk.new) (filled_calls layout.now register.now) }
-    ensures sectors { (D.view disk.new).sectors ≡ (D.view disk.old).sectors }
-    ensures later { (D.view disk.old).failures ≤ (D.view disk.new).failures }
-    ensures fault { IsErr result → HasFailed (D.view disk.old) (D.view disk.new) }
     ensures in_range { IsErrOf result OutOfRange → ⊥ }
-    ensures honest { (D.view disk.old).honest → (D.view disk.new).honest }
+    ensures keeps { KeepsDisk (D.view disk.old) (D.view disk.new) (IsErr result) }
 {
     centre_core::laws::registers(register);
     write_sides(disk, layout)?;
@@ -70,10 +68,8 @@ pub fn format_with<A: Allocator + Clone, D: Disk>(
     // It fails only for these reasons.
     ensures geometry { (D.view disk.old).sectors < disk_size layout.now → (result ≡ Err BadGeometry) × (disk.new ≡ disk.old) }
     ensures fault { disk_size layout.now ≤ (D.view disk.old).sectors
-        → IfErr result (λ fault. (fault ≡ DiskFault) × HasFailed (D.view disk.old) (D.view disk.new)) }
-    ensures sectors { (D.view disk.new).sectors ≡ (D.view disk.old).sectors }
-    ensures later { (D.view disk.old).failures ≤ (D.view disk.new).failures }
-    ensures honest { (D.view disk.old).honest → (D.view disk.new).honest }
+        → IfErr result (λ e. (e ≡ DiskFault) × HasFailed (D.view disk.old) (D.view disk.new)) }
+    ensures keeps { KeepsDisk (D.view disk.old) (D.view disk.new) (IsErrOf result DiskFault) }
 
     // The life of the disk begins with the register.
     ensures begins { OnOk result ((D.view disk.old).honest → IsLife A D.view register.now [] (Closed disk.new)) }

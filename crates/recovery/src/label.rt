@@ -1,12 +1,12 @@
 // Reading the label of a disk.
-ghost use Rattle.std.specs.Prelude.{◌≡◌, ◌⊎◌, ◌≤◌, ℕ, IfErr, IfOk, IsErrOf, length};
-ghost use Rattle.sector_disk.specs.Disk.{HasFailed};
-ghost use Rattle.sector_disk.specs.Reading.{before_reads};
-ghost use Rattle.sector_disk.specs.Run.{HasOnlyRead};
-ghost use Rattle.checkpoint.specs.Layout.{disk_size};
-ghost use Rattle.recovery.specs.declared.fault.StoreFault.TheVariants.{BadGeometry, Damaged, DiskFault, Unformatted};
+ghost use Rattle.std.specs.Prelude.{◌≡◌, ◌⊎◌, ◌≤◌, ◌∷◌, [], IfErr, IfOk, length};
+ghost use Rattle.sector_disk.specs.Run.{HasCalled};
+ghost use Rattle.sector_disk.specs.declared.record.Call.TheVariants.{Read};
+ghost use Rattle.checkpoint.specs.Layout.{disk_size, label_at};
+ghost use Rattle.recovery.specs.declared.fault.StoreFault.TheVariants.{BadGeometry, Unformatted};
 ghost use Rattle.recovery.specs.Label.{fitting, layout_at, layout_after, layout_in, layout_of_numbers, numbers_at};
-ghost use Rattle.recovery.specs.Opening.{Gives, IsOfDisk};
+ghost use Rattle.recovery.specs.Opening.{Gives};
+ghost use Rattle.recovery.specs.Inside.Reads.{IsOfLabel, ReadsOrFails};
 
 use crate::StoreFault;
 use crate::formatting::LAYOUT;
@@ -101,13 +101,8 @@ fn layout_at(sectors: u64, bytes: &[u8]) -> Result<Layout, StoreFault>
 pub(crate) fn read_layout<D: Disk>(disk: &mut D) -> Result<Layout, StoreFault>
     ensures exact { (D.view disk.old).honest → Gives (λ layout. layout) result (layout_in (D.view disk.old).reads) }
     ensures room { IfOk result (λ layout. disk_size layout ≤ (D.view disk.old).sectors) }
-    ensures kinds { IfErr result IsOfDisk }
-    ensures on_disk { (at : ℕ) → IsErrOf result (Damaged at) → ⊥ }
-    ensures only_read { (D.view disk.old).honest → HasOnlyRead (D.view disk.old) (D.view disk.new) }
-    ensures only_reads { before_reads (D.view disk.new).calls ≡ before_reads (D.view disk.old).calls }
-    ensures fault { IsErrOf result DiskFault → HasFailed (D.view disk.old) (D.view disk.new) }
-    ensures sectors { (D.view disk.new).sectors ≡ (D.view disk.old).sectors }
-    ensures later { (D.view disk.old).failures ≤ (D.view disk.new).failures }
+    ensures calls { IfOk result (λ layout. HasCalled (D.view disk.old) (D.view disk.new) (Read label_at ∷ [])) }
+    ensures reads { ReadsOrFails IsOfLabel (D.view disk.old) (D.view disk.new) result }
 {
     let sectors = disk.sectors();
     if sectors == 0 {

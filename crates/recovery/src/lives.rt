@@ -1,12 +1,10 @@
 //! What holds over the whole life of a disk.
 
-ghost use Rattle.std.specs.Prelude.{◌≡◌, ◌∷◌, ℕ, [], List, Ok, false};
+ghost use Rattle.std.specs.Prelude.{◌≡◌, ◌∷◌, [], List, false};
 ghost use Rattle.sector_disk.specs.Memory.{memory_view};
 ghost use Rattle.centre_core.specs.State.{State};
-ghost use Rattle.checkpoint.specs.OnSide.{InEach};
-ghost use Rattle.recovery.specs.Opens.{Opening, opens};
-ghost use Rattle.recovery.specs.OpensTo.{OpensTo};
-ghost use Rattle.recovery.specs.Lives.{Closed, Event, HasBeenHonest, IsLife, IsStoredIn, Lasts, LastsInStore, LosesNoMessage, Open, Phase, StoreView, Unanswered, disk_of, view_of};
+ghost use Rattle.recovery.specs.Lives.{BeginsWhereDurable, BeginsWhereEachOpens, LastsOnDisk, LastsWhereSound, NoMessageIsLost};
+ghost use Rattle.recovery.specs.Lives.{Closed, Event, HasBeenHonest, IsLife, IsStoredIn, Unanswered, view_of};
 
 use crate::Store;
 use sector_disk::{Disk, MemoryDisk};
@@ -17,10 +15,8 @@ use std::alloc::Allocator;
 ///
 /// This function does nothing: calling it gives its clauses.
 pub fn begins<A: Allocator, D: Disk>()
-    ensures each { (base : State) (disk : D) → (D.view disk).honest → InEach (D.view disk) (OpensTo A base)
-        → IsLife A D.view base [] (Closed disk) }
-    ensures durable { (opening : Opening) (disk : D) → (D.view disk).honest → ((k : ℕ) → (D.view disk).pending k ≡ false)
-        → opens A (D.view disk).reads ≡ Ok opening → IsLife A D.view opening.state [] (Closed disk) }
+    ensures each { BeginsWhereEachOpens A D.view }
+    ensures durable { BeginsWhereDurable A D.view }
 {}
 
 /// Over the whole life of a disk, through any calls and any stops between them and within them: each image that a stop may
@@ -30,12 +26,9 @@ pub fn begins<A: Allocator, D: Disk>()
 ///
 /// This function does nothing: calling it gives its clauses.
 pub fn lasts<A: Allocator, D: Disk>()
-    ensures on_disk { (base : State) (events : List (Event A)) (now : Phase A D) → IsLife A D.view base events now
-        → InEach (D.view (disk_of now)) (Lasts A base events) }
-    ensures in_store { (base : State) (events : List (Event A)) (store : StoreView A D) → IsLife A D.view base events (Open store)
-        → store.broken ≡ false → IsStoredIn A D.view store × LastsInStore A base events store }
-    ensures messages { (base : State) (events : List (Event A)) (image : List (List ℕ)) (lasts : Lasts A base events image)
-        → LosesNoMessage A base lasts.kept image }
+    ensures on_disk { LastsOnDisk A D.view }
+    ensures in_store { LastsWhereSound A D.view }
+    ensures messages { NoMessageIsLost A }
 {}
 
 /// The register of each store is on its disk, if the store is not broken, and the disk is honest and was so when the store

@@ -1,25 +1,25 @@
 // A checkpoint that is written a few rows at a time, between commits.
-ghost use Rattle.std.specs.Prelude.{◌≡◌, ◌≤◌, ◌+◌, ℕ, IfErr, IfSome, IsErr, None, OnOk, Some, length, nat_eq, true, false};
-ghost use Rattle.sector_disk.specs.Disk.{HasFailed};
+ghost use Rattle.std.specs.Prelude.{◌≡◌, ◌≤◌, ◌+◌, ℕ, IfSome, IsErr, None, OnOk, Some, length, nat_eq, true, false};
+ghost use Rattle.sector_disk.specs.Effects.{KeepsDisk};
 ghost use Rattle.sector_disk.specs.Run.{HasCalled, HasMade};
 ghost use Rattle.image_rows.specs.Rows.{rows_of};
 ghost use Rattle.checkpoint.specs.Layout.{disk_size};
-ghost use Rattle.recovery.specs.declared.fault.StoreFault.TheVariants.{DiskFault};
-ghost use Rattle.recovery.specs.Calls.{end_calls, rows_calls};
-ghost use Rattle.recovery.specs.Commits.{OngoingCalls, OngoingCallsOnAnyDisk, SomeOngoingCalls, SomeOngoingCallsOnAnyDisk};
-ghost use Rattle.recovery.specs.AfterCommit.{GoesOn, HasBegun, HasEnded, HasWrittenRows, Stays};
-ghost use Rattle.recovery.specs.Lives.{HasSameRegister, StaysKept, StopsLeave, view_of};
-ghost use Rattle.recovery.specs.OpensTo.{OpensTo};
+ghost use Rattle.recovery.specs.Calls.{end_calls};
+ghost use Rattle.recovery.specs.Checkpointed.{HoldsRegister};
+ghost use Rattle.recovery.specs.Commits.{OngoingCalls};
+ghost use Rattle.recovery.specs.AfterCommit.{GoesOn, HasBegun, HasEnded, HasNextRows, Stays};
+ghost use Rattle.recovery.specs.Inside.InCall.{StepsInCall, end_calls_of, rows_calls_of};
+ghost use Rattle.recovery.specs.Lives.{view_of};
 ghost use Rattle.recovery.specs.UnderWay.{BelongsTo, MayBegin, SwitchLeaves, SwitchStores};
 ghost use Rattle.gated_journal.specs.declared.place.Place.{Place};
 
 use crate::{Store, StoreFault};
+use base::TryCopy;
 use centre_core::Register;
 use centre_core::laws::registers;
 use checkpoint::{CheckpointError, Layout, Progress, Side, begin, switch, write_next_rows};
 use gated_journal::{Form, Journal};
 use image_rows::LAST_EPOCH;
-use prefix_tree::TryCopy;
 use sector_disk::Disk;
 use std::alloc::Allocator;
 
@@ -45,12 +45,9 @@ fn end_side<A: Allocator + Clone, D: Disk>(
     requires whole { ongoing.now.progress.written ≡ length (rows_of (epoch + 1) ongoing.now.register) }
     ensures any_moment { SwitchLeaves A layout.now side epoch ongoing.now (D.view disk.old) (D.view disk.new) }
     ensures ended { OnOk result (SwitchStores A layout.now side epoch ongoing.now (D.view disk.old) (D.view disk.new)) }
-    ensures calls { OnOk result (HasCalled (D.view disk.old) (D.view disk.new) (end_calls layout.now side epoch true)) }
-    ensures some_calls { HasMade (D.view disk.old) (D.view disk.new) (end_calls layout.now side epoch true) }
-    ensures fault { IsErr result → HasFailed (D.view disk.old) (D.view disk.new) }
-    ensures sectors { (D.view disk.new).sectors ≡ (D.view disk.old).sectors }
-    ensures later { (D.view disk.old).failures ≤ (D.view disk.new).failures }
-    ensures honest { (D.view disk.old).honest → (D.view disk.new).honest }
+    ensures calls { OnOk result (HasCalled (D.view disk.old) (D.view disk.new) (end_calls side true)) }
+    ensures some_calls { HasMade (D.view disk.old) (D.view disk.new) (end_calls side true) }
+    ensures keeps { KeepsDisk (D.view disk.old) (D.view disk.new) (IsErr result) }
 {
     registers(&ongoing.register);
     disk.sync()?;
@@ -70,21 +67,12 @@ impl<A: Allocator + Copy, D: Disk> Store<A, D> {
     // done.
     #[tactic(auto, using(crate::proofs::InCall::in_call))]
     fn begin_checkpoint(&mut self) -> Result<(), StoreFault>
-        requires in_call { self.old.broken ≡ true }
-        requires idle { self.old.ongoing ≡ None }
-        ensures any_moment { StopsLeave A D.view (view_of self.old) (view_of self.new) (OpensTo A self.old.register) }
-        ensures kept { OnOk result (StaysKept A D.view (view_of self.old) (view_of self.new)) }
+        requires { (self.old.broken ≡ true) × (self.old.ongoing ≡ None) }
+        ensures on_disk { HoldsRegister A D.view (view_of self.old) (view_of self.new) result }
         ensures stays { Stays (view_of self.old) (view_of self.new) }
         ensures begun { OnOk result (IfSome self.new.ongoing (HasBegun (view_of self.old) (view_of self.new))) }
-        ensures calls { OnOk result (OngoingCalls A D.view (view_of self.old) (view_of self.new) None) }
-        ensures some_calls { SomeOngoingCalls A D.view (view_of self.old) (view_of self.new) None }
-        ensures calls_on_any_disk { OnOk result (OngoingCallsOnAnyDisk A D.view (view_of self.old) (view_of self.new) None) }
-        ensures some_calls_on_any_disk { SomeOngoingCallsOnAnyDisk A D.view (view_of self.old) (view_of self.new) None }
-        ensures same { HasSameRegister self.old self.new }
-        ensures fault { IfErr result (λ fault. (fault ≡ DiskFault) × HasFailed (D.view self.old.disk) (D.view self.new.disk)) }
-        ensures in_call { self.new.broken ≡ true }
-        ensures later { (D.view self.old.disk).failures ≤ (D.view self.new.disk).failures }
-        ensures honest { (D.view self.old.disk).honest → (D.view self.new.disk).honest }
+        ensures calls { OngoingCalls A D.view (view_of self.old) (view_of self.new) None result }
+        ensures steps { StepsInCall D.view self.old self.new result }
     {
         if !self.may_begin() {
             return Ok(());
@@ -119,19 +107,14 @@ impl<A: Allocator + Copy, D: Disk> Store<A, D> {
     #[tactic(auto, using(crate::proofs::InCall::in_call))]
     fn write_rows(&mut self) -> Result<(), StoreFault>
         requires in_call { self.old.broken ≡ true }
-        ensures any_moment { StopsLeave A D.view (view_of self.old) (view_of self.new) (OpensTo A self.old.register) }
-        ensures kept { OnOk result (StaysKept A D.view (view_of self.old) (view_of self.new)) }
+        ensures on_disk { HoldsRegister A D.view (view_of self.old) (view_of self.new) result }
         ensures stays { Stays (view_of self.old) (view_of self.new) }
-        ensures gone { OnOk result (IfSome self.old.ongoing (λ was. (is : Ongoing A) × (self.new.ongoing ≡ Some is) × HasWrittenRows self.old.epoch was is)) }
+        ensures gone { OnOk result (IfSome self.old.ongoing (HasNextRows (view_of self.old) (view_of self.new))) }
         ensures calls { OnOk result (IfSome self.old.ongoing (λ was.
-            HasCalled (D.view self.old.disk) (D.view self.new.disk) (rows_calls self.old.layout self.old.side self.old.epoch was))) }
+            HasCalled (D.view self.old.disk) (D.view self.new.disk) (rows_calls_of (view_of self.old) was))) }
         ensures some_calls { IfSome self.old.ongoing (λ was.
-            HasMade (D.view self.old.disk) (D.view self.new.disk) (rows_calls self.old.layout self.old.side self.old.epoch was)) }
-        ensures same { HasSameRegister self.old self.new }
-        ensures fault { IfErr result (λ fault. (fault ≡ DiskFault) × HasFailed (D.view self.old.disk) (D.view self.new.disk)) }
-        ensures in_call { self.new.broken ≡ true }
-        ensures later { (D.view self.old.disk).failures ≤ (D.view self.new.disk).failures }
-        ensures honest { (D.view self.old.disk).honest → (D.view self.new.disk).honest }
+            HasMade (D.view self.old.disk) (D.view self.new.disk) (rows_calls_of (view_of self.old) was)) }
+        ensures steps { StepsInCall D.view self.old self.new result }
     {
         let Some(ongoing) = &mut self.ongoing else {
             return Ok(());
@@ -165,17 +148,12 @@ impl<A: Allocator + Copy, D: Disk> Store<A, D> {
     fn end_checkpoint(&mut self) -> Result<(), StoreFault>
         requires in_call { self.old.broken ≡ true }
         requires whole { IfSome self.old.ongoing (λ it. it.progress.written ≡ length (rows_of (self.old.epoch + 1) it.register)) }
-        ensures any_moment { StopsLeave A D.view (view_of self.old) (view_of self.new) (OpensTo A self.old.register) }
-        ensures kept { OnOk result (StaysKept A D.view (view_of self.old) (view_of self.new)) }
+        ensures on_disk { HoldsRegister A D.view (view_of self.old) (view_of self.new) result }
         ensures ended { OnOk result (IfSome self.old.ongoing (HasEnded (view_of self.old) (view_of self.new))) }
         ensures calls { OnOk result (IfSome self.old.ongoing (λ was.
-            HasCalled (D.view self.old.disk) (D.view self.new.disk) (end_calls self.old.layout self.old.side self.old.epoch true))) }
-        ensures some_calls { HasMade (D.view self.old.disk) (D.view self.new.disk) (end_calls self.old.layout self.old.side self.old.epoch true) }
-        ensures same { HasSameRegister self.old self.new }
-        ensures fault { IfErr result (λ fault. (fault ≡ DiskFault) × HasFailed (D.view self.old.disk) (D.view self.new.disk)) }
-        ensures in_call { self.new.broken ≡ true }
-        ensures later { (D.view self.old.disk).failures ≤ (D.view self.new.disk).failures }
-        ensures honest { (D.view self.old.disk).honest → (D.view self.new.disk).honest }
+            HasCalled (D.view self.old.disk) (D.view self.new.disk) (end_calls_of (view_of self.old)))) }
+        ensures some_calls { HasMade (D.view self.old.disk) (D.view self.new.disk) (end_calls_of (view_of self.old)) }
+        ensures steps { StepsInCall D.view self.old self.new result }
     {
         let Some(ongoing) = self.ongoing.take() else {
             return Ok(());
@@ -207,18 +185,10 @@ impl<A: Allocator + Copy, D: Disk> Store<A, D> {
     // under way, one may begin.
     pub(crate) fn advance_checkpoint(&mut self) -> Result<(), StoreFault>
         requires in_call { self.old.broken ≡ true }
-        ensures any_moment { StopsLeave A D.view (view_of self.old) (view_of self.new) (OpensTo A self.old.register) }
-        ensures kept { OnOk result (StaysKept A D.view (view_of self.old) (view_of self.new)) }
+        ensures on_disk { HoldsRegister A D.view (view_of self.old) (view_of self.new) result }
         ensures goes { OnOk result (GoesOn (view_of self.old) (view_of self.new) self.old.ongoing) }
-        ensures calls { OnOk result (OngoingCalls A D.view (view_of self.old) (view_of self.new) self.old.ongoing) }
-        ensures some_calls { SomeOngoingCalls A D.view (view_of self.old) (view_of self.new) self.old.ongoing }
-        ensures calls_on_any_disk { OnOk result (OngoingCallsOnAnyDisk A D.view (view_of self.old) (view_of self.new) self.old.ongoing) }
-        ensures some_calls_on_any_disk { SomeOngoingCallsOnAnyDisk A D.view (view_of self.old) (view_of self.new) self.old.ongoing }
-        ensures same { HasSameRegister self.old self.new }
-        ensures fault { IfErr result (λ fault. (fault ≡ DiskFault) × HasFailed (D.view self.old.disk) (D.view self.new.disk)) }
-        ensures in_call { self.new.broken ≡ true }
-        ensures later { (D.view self.old.disk).failures ≤ (D.view self.new.disk).failures }
-        ensures honest { (D.view self.old.disk).honest → (D.view self.new.disk).honest }
+        ensures calls { OngoingCalls A D.view (view_of self.old) (view_of self.new) self.old.ongoing result }
+        ensures steps { StepsInCall D.view self.old self.new result }
     {
         if self.ongoing.is_none() {
             return self.begin_checkpoint();

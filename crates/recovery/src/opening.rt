@@ -1,15 +1,14 @@
 // Reading a disk from its label to its last record.
-ghost use Rattle.std.specs.Prelude.{◌≡◌, ◌⊎◌, ◌<◌, ◌≤◌, ℕ, IfErr, IfOk, IsErrOf, OnOk};
-ghost use Rattle.sector_disk.specs.Disk.{HasFailed};
-ghost use Rattle.sector_disk.specs.Reading.{before_reads};
-ghost use Rattle.sector_disk.specs.Run.{HasOnlyRead};
-ghost use Rattle.gated_journal.specs.Reading.{HasRecords};
+ghost use Rattle.std.specs.Prelude.{◌≡◌, ◌<◌, ◌≤◌, ℕ, IfErr, IfOk, IsErrOf};
+ghost use Rattle.sector_disk.specs.Effects.{OnlyReads};
 ghost use Rattle.checkpoint.specs.Layout.{disk_size, half_at, half_end};
 ghost use Rattle.checkpoint.specs.OnSide.{ReadsForm};
 ghost use Rattle.recovery.specs.declared.fault.StoreFault.TheVariants.{Damaged, DiskFault, NoMemory};
-ghost use Rattle.recovery.specs.Opens.{opens, opens_by, played_by};
-ghost use Rattle.recovery.specs.Opening.{AreGoodSoFar, EndsAt, Gives, HasNoFaultYet, IsOfOpening};
+ghost use Rattle.recovery.specs.Opens.{opens, opens_by};
+ghost use Rattle.recovery.specs.Opening.{EndsAt, Gives, HasNoFaultYet, IsOfOpening};
+ghost use Rattle.recovery.specs.Inside.Current.{InForm, IsGoodSide, IsUnreadOrGood, half_played};
 ghost use Rattle.recovery.specs.Inside.Opened.{IsWhole, opened_view};
+ghost use Rattle.recovery.specs.Inside.Reads.{IsOfReading, ReadsOrFails};
 
 use crate::StoreFault;
 use crate::label::read_layout;
@@ -43,23 +42,17 @@ fn read_half<A: Allocator + Copy, D: Disk>(
     register: &mut Register<A>,
 ) -> Result<Journal<A>, StoreFault>
     requires room { disk_size layout.now ≤ (D.view disk.old).sectors }
-    ensures exact { (D.view disk.old).honest → ReadsForm layout.now current.side current.form (D.view disk.old)
-        → EndsAt (λ journal. journal.next) result register.new (played_by A layout.now current.side register.old (D.view disk.old).reads) }
-    ensures memory { IsErrOf result NoMemory → (D.view disk.old).honest → ((D.view disk.new).calls ≡ (D.view disk.old).calls)
-        ⊎ HasRecords A current.form register.old.count (D.view disk.old).reads (half_at layout.now current.side) (half_end layout.now current.side) }
+    ensures exact { (D.view disk.old).honest → InForm layout.now current (D.view disk.old)
+        (EndsAt (λ journal. journal.next) result register.new (half_played A layout.now current register.old (D.view disk.old))) }
+    ensures memory { IsErrOf result NoMemory → (D.view disk.old).honest
+        → IsUnreadOrGood A layout.now current register.old (D.view disk.old) (D.view disk.new) }
     ensures limits { register.new.registered.limits ≡ register.old.registered.limits }
     ensures first { IfOk result (λ journal. journal.first ≡ half_at layout.now current.side) }
     ensures end { IfOk result (λ journal. journal.end ≡ half_end layout.now current.side) }
     ensures next { IfOk result (λ journal. journal.next < half_end layout.now current.side) }
     ensures form { IfOk result (λ journal. journal.form ≡ current.form) }
     ensures counts { IfOk result (λ journal. journal.count ≡ register.new.count) }
-    ensures kinds { IfErr result IsOfOpening }
-    ensures on_disk { (at : ℕ) → IsErrOf result (Damaged at) → at < (D.view disk.old).sectors }
-    ensures only_read { (D.view disk.old).honest → HasOnlyRead (D.view disk.old) (D.view disk.new) }
-    ensures only_reads { before_reads (D.view disk.new).calls ≡ before_reads (D.view disk.old).calls }
-    ensures fault { IsErrOf result DiskFault → HasFailed (D.view disk.old) (D.view disk.new) }
-    ensures sectors { (D.view disk.new).sectors ≡ (D.view disk.old).sectors }
-    ensures later { (D.view disk.old).failures ≤ (D.view disk.new).failures }
+    ensures reads { ReadsOrFails (IsOfReading (D.view disk.old).sectors) (D.view disk.old) (D.view disk.new) result }
 {
     registers(register);
     let mut journal = Journal::start(
@@ -82,21 +75,15 @@ pub(crate) fn read_current<A: Allocator + Copy, D: Disk>(
     current: Current,
 ) -> Result<Opened<A>, StoreFault>
     requires room { disk_size layout ≤ (D.view disk.old).sectors }
-    ensures exact { (D.view disk.old).honest → ReadsForm layout current.side current.form (D.view disk.old)
-        → Gives opened_view result (opens_by A layout current.side (D.view disk.old).reads) }
-    ensures memory { IsErrOf result NoMemory → (D.view disk.old).honest → ReadsForm layout current.side current.form (D.view disk.old)
-        → AreGoodSoFar A layout current.side (D.view disk.old).reads (D.view disk.new).calls }
+    ensures exact { (D.view disk.old).honest → InForm layout current (D.view disk.old)
+        (Gives opened_view result (opens_by A layout current.side (D.view disk.old).reads)) }
+    ensures memory { IsErrOf result NoMemory → (D.view disk.old).honest → InForm layout current (D.view disk.old)
+        (IsGoodSide A layout current (D.view disk.old) (D.view disk.new)) }
     ensures whole { IfOk result IsWhole }
     ensures layout { IfOk result (λ opened. opened.layout ≡ layout) }
     ensures side { IfOk result (λ opened. opened.side ≡ current.side) }
     ensures form { IfOk result (λ opened. opened.journal.form ≡ current.form) }
-    ensures kinds { IfErr result IsOfOpening }
-    ensures on_disk { (at : ℕ) → IsErrOf result (Damaged at) → at < (D.view disk.old).sectors }
-    ensures only_read { (D.view disk.old).honest → HasOnlyRead (D.view disk.old) (D.view disk.new) }
-    ensures only_reads { before_reads (D.view disk.new).calls ≡ before_reads (D.view disk.old).calls }
-    ensures fault { IsErrOf result DiskFault → HasFailed (D.view disk.old) (D.view disk.new) }
-    ensures sectors { (D.view disk.new).sectors ≡ (D.view disk.old).sectors }
-    ensures later { (D.view disk.old).failures ≤ (D.view disk.new).failures }
+    ensures reads { ReadsOrFails (IsOfReading (D.view disk.old).sectors) (D.view disk.old) (D.view disk.new) result }
 {
     let (epoch, mut register) = read_base(alloc, disk, &layout, current.side)?;
     match read_half(alloc, disk, &layout, current, &mut register) {
@@ -121,17 +108,14 @@ pub(crate) fn read_all<A: Allocator + Copy, D: Disk>(
     disk: &mut D,
 ) -> Result<Opened<A>, StoreFault>
     ensures exact { (D.view disk.old).honest → Gives opened_view result (opens A (D.view disk.old).reads) }
-    ensures memory { IsErrOf result NoMemory → (D.view disk.old).honest → HasNoFaultYet A (D.view disk.old).reads (D.view disk.new).calls }
+    ensures memory { IsErrOf result NoMemory → (D.view disk.old).honest
+        → HasNoFaultYet A (D.view disk.old).reads (D.view disk.old).calls (D.view disk.new).calls }
     ensures whole { IfOk result IsWhole }
     ensures form { IfOk result (λ opened. (D.view disk.old).honest → ReadsForm opened.layout opened.side opened.journal.form (D.view disk.old)) }
     ensures room { IfOk result (λ opened. disk_size opened.layout ≤ (D.view disk.old).sectors) }
     ensures kinds { IfErr result IsOfOpening }
     ensures on_disk { (at : ℕ) → IsErrOf result (Damaged at) → at < (D.view disk.old).sectors }
-    ensures only_read { (D.view disk.old).honest → HasOnlyRead (D.view disk.old) (D.view disk.new) }
-    ensures only_reads { before_reads (D.view disk.new).calls ≡ before_reads (D.view disk.old).calls }
-    ensures fault { IsErrOf result DiskFault → HasFailed (D.view disk.old) (D.view disk.new) }
-    ensures sectors { (D.view disk.new).sectors ≡ (D.view disk.old).sectors }
-    ensures later { (D.view disk.old).failures ≤ (D.view disk.new).failures }
+    ensures reads { OnlyReads (D.view disk.old) (D.view disk.new) (IsErrOf result DiskFault) }
 {
     let layout = read_layout(disk)?;
     let current = read_side(disk, &layout)?;

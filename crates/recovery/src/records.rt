@@ -1,16 +1,16 @@
 // The image in a side's slot, and the commands in its half.
-ghost use Rattle.std.specs.Prelude.{◌≡◌, ◌⊎◌, ◌<◌, ◌≤◌, ◌+◌, ℕ, IfErr, IfOk, IsErrOf, OnOk, Result, length, true};
+ghost use Rattle.std.specs.Prelude.{◌≡◌, ◌⊎◌, ◌<◌, ◌≤◌, ◌+◌, ◌-◌, IfErr, IfOk, IsErrOf, OnOk, length, true};
 ghost use Rattle.sector_disk.specs.Disk.{HasFailed};
-ghost use Rattle.sector_disk.specs.Reading.{before_reads};
-ghost use Rattle.sector_disk.specs.Run.{HasCalled, HasOnlyRead};
-ghost use Rattle.gated_journal.specs.Reading.{HasRecordsIn};
-ghost use Rattle.gated_journal.specs.Settled.{IsCounted, half_in};
-ghost use Rattle.centre_core.specs.State.{State};
+ghost use Rattle.sector_disk.specs.Run.{HasCalled};
+ghost use Rattle.gated_journal.specs.Reading.{HasCalledTimes, HasRecordsIn, IsReadOnce};
 ghost use Rattle.checkpoint.specs.Layout.{disk_size, slot_at};
 ghost use Rattle.checkpoint.specs.Reading.{IsGoodSoFar, image_reads};
-ghost use Rattle.recovery.specs.declared.fault.StoreFault.TheVariants.{Damaged, DiskFault, NoMemory};
-ghost use Rattle.recovery.specs.Opens.{base_in, held_by, played_from, run, taken};
-ghost use Rattle.recovery.specs.Opening.{BeginsWith, EndsAt, Fails, Gives, IsOfOpening, PlaysOn, PlaysTo, Stops, StopsAt, rest_in};
+ghost use Rattle.sector_disk.specs.Effects.{OnlyReads};
+ghost use Rattle.recovery.specs.declared.fault.StoreFault.TheVariants.{DiskFault, NoMemory};
+ghost use Rattle.recovery.specs.Opens.{base_in, run, taken};
+ghost use Rattle.recovery.specs.Opening.{Gives, HasReadAgain, NeedsMemory, PlaysTo};
+ghost use Rattle.recovery.specs.Inside.Played.{HasMovedOn, HasRunShort, IsReadable, PlaysAll, PlaysHalf, PlaysOne, PlaysWithin, ReportsFirst};
+ghost use Rattle.recovery.specs.Inside.Reads.{IsOfReading, IsOfRecord, IsOfSector, ReadsOrFails};
 
 use crate::StoreFault;
 use centre_core::{Command, Register};
@@ -33,13 +33,7 @@ pub(crate) fn read_base<A: Allocator + Copy, D: Disk>(
     ensures memory { IsErrOf result NoMemory → (D.view disk.old).honest → IsGoodSoFar layout.now side (D.view disk.old) (D.view disk.new) }
     ensures calls { IfOk result (λ base. (D.view disk.old).honest
         → HasCalled (D.view disk.old) (D.view disk.new) (image_reads (slot_at layout.now side) base)) }
-    ensures kinds { IfErr result IsOfOpening }
-    ensures on_disk { (at : ℕ) → IsErrOf result (Damaged at) → at < (D.view disk.old).sectors }
-    ensures only_read { (D.view disk.old).honest → HasOnlyRead (D.view disk.old) (D.view disk.new) }
-    ensures only_reads { before_reads (D.view disk.new).calls ≡ before_reads (D.view disk.old).calls }
-    ensures fault { IsErrOf result DiskFault → HasFailed (D.view disk.old) (D.view disk.new) }
-    ensures sectors { (D.view disk.new).sectors ≡ (D.view disk.old).sectors }
-    ensures later { (D.view disk.old).failures ≤ (D.view disk.new).failures }
+    ensures reads { ReadsOrFails (IsOfReading (D.view disk.old).sectors) (D.view disk.old) (D.view disk.new) result }
 {
     match read_image(disk, layout, side, alloc) {
         Ok(image) => Ok(image),
@@ -59,9 +53,8 @@ fn play_record<A: Allocator + Copy>(
     ensures exact { PlaysTo result register.new (taken at (run register.old commands.now)) }
     ensures limits { register.new.registered.limits ≡ register.old.registered.limits }
     ensures count { OnOk result (register.new.count ≡ register.old.count + length commands.now) }
-    ensures kinds { IfErr result IsOfOpening }
-    ensures here { (s : ℕ) → IsErrOf result (Damaged s) → s ≡ at }
-    ensures device { IsErrOf result DiskFault → ⊥ }
+    ensures memory { IsErrOf result NoMemory → NeedsMemory register.old commands.now register.new }
+    ensures kinds { IfErr result (IsOfRecord at) }
 {
     for command in commands {
         let reply = register.apply(alloc, command)?;
@@ -79,27 +72,17 @@ fn play_next<A: Allocator + Copy, D: Disk>(
     journal: &mut Journal<A>,
     register: &mut Register<A>,
 ) -> Result<bool, StoreFault>
-    requires before { journal.old.next < journal.old.end }
-    requires within { journal.old.end ≤ (D.view disk.old).sectors }
-    requires room { IsCounted journal.old }
-    ensures exact { (D.view disk.old).honest → PlaysOn result register.new journal.new.next (rest_in A journal.new journal.old.end (D.view disk.old))
-        (played_from register.old (half_in A journal.old (D.view disk.old))) }
-    ensures begins { (D.view disk.old).honest → BeginsWith (half_in A journal.old (D.view disk.old)) (rest_in A journal.new journal.old.end (D.view disk.old)) }
-    ensures limits { register.new.registered.limits ≡ register.old.registered.limits }
-    ensures first { journal.new.first ≡ journal.old.first }
-    ensures end { journal.new.end ≡ journal.old.end }
-    ensures next { journal.new.next < journal.old.end }
-    ensures form { journal.new.form ≡ journal.old.form }
+    requires readable { IsReadable journal.old (D.view disk.old) }
+    ensures exact { (D.view disk.old).honest → PlaysOne A journal.old journal.new register.old register.new (D.view disk.old) result }
+    ensures moved { (D.view disk.old).honest → OnOk result (HasMovedOn A journal.old journal.new register.old register.new (D.view disk.old)) }
+    ensures memory { IsErrOf result NoMemory → (D.view disk.old).honest
+        → HasRunShort A journal.old journal.new register.old register.new (D.view disk.old)
+        (HasReadAgain (D.view disk.old).calls (D.view disk.new).calls journal.old.next journal.new.next) }
+    ensures moves { PlaysWithin journal.old journal.new register.old register.new }
     ensures counts { OnOk result (journal.old.count ≡ register.old.count → journal.new.count ≡ register.new.count) }
-    ensures room { IsCounted journal.new }
     ensures on { IfOk result (λ more. more ≡ true → journal.old.next < journal.new.next) }
-    ensures kinds { IfErr result IsOfOpening }
-    ensures damaged { (at : ℕ) → IsErrOf result (Damaged at) → at < journal.old.end }
-    ensures only_read { (D.view disk.old).honest → HasOnlyRead (D.view disk.old) (D.view disk.new) }
-    ensures only_reads { before_reads (D.view disk.new).calls ≡ before_reads (D.view disk.old).calls }
-    ensures fault { IsErrOf result DiskFault → HasFailed (D.view disk.old) (D.view disk.new) }
-    ensures sectors { (D.view disk.new).sectors ≡ (D.view disk.old).sectors }
-    ensures later { (D.view disk.old).failures ≤ (D.view disk.new).failures }
+    ensures calls { IfOk result (λ more. more ≡ true → HasCalledTimes (D.view disk.old) (D.view disk.new) (journal.new.next - journal.old.next)) }
+    ensures reads { ReadsOrFails (IsOfReading journal.old.end) (D.view disk.old) (D.view disk.new) result }
 {
     let Some((at, commands)) = journal.read_next(alloc, disk)? else {
         return Ok(false);
@@ -115,26 +98,14 @@ fn play_on<A: Allocator + Copy, D: Disk>(
     journal: &mut Journal<A>,
     register: &mut Register<A>,
 ) -> Result<(), StoreFault>
-    requires before { journal.old.next < journal.old.end }
-    requires within { journal.old.end ≤ (D.view disk.old).sectors }
-    requires room { IsCounted journal.old }
-    ensures exact { (D.view disk.old).honest → StopsAt result register.new journal.new.next (rest_in A journal.new journal.old.end (D.view disk.old))
-        (played_from register.old (half_in A journal.old (D.view disk.old))) }
-    ensures begins { (D.view disk.old).honest → BeginsWith (half_in A journal.old (D.view disk.old)) (rest_in A journal.new journal.old.end (D.view disk.old)) }
-    ensures limits { register.new.registered.limits ≡ register.old.registered.limits }
-    ensures first { journal.new.first ≡ journal.old.first }
-    ensures end { journal.new.end ≡ journal.old.end }
-    ensures next { journal.new.next < journal.old.end }
-    ensures form { journal.new.form ≡ journal.old.form }
+    requires readable { IsReadable journal.old (D.view disk.old) }
+    ensures exact { (D.view disk.old).honest → PlaysAll A journal.old journal.new register.old register.new (D.view disk.old) result }
+    ensures memory { IsErrOf result NoMemory → (D.view disk.old).honest
+        → HasRunShort A journal.old journal.new register.old register.new (D.view disk.old)
+        (HasReadAgain (D.view disk.old).calls (D.view disk.new).calls journal.old.next journal.new.next) }
+    ensures moves { PlaysWithin journal.old journal.new register.old register.new }
     ensures counts { OnOk result (journal.old.count ≡ register.old.count → journal.new.count ≡ register.new.count) }
-    ensures room { IsCounted journal.new }
-    ensures kinds { IfErr result IsOfOpening }
-    ensures damaged { (at : ℕ) → IsErrOf result (Damaged at) → at < journal.old.end }
-    ensures only_read { (D.view disk.old).honest → HasOnlyRead (D.view disk.old) (D.view disk.new) }
-    ensures only_reads { before_reads (D.view disk.new).calls ≡ before_reads (D.view disk.old).calls }
-    ensures fault { IsErrOf result DiskFault → HasFailed (D.view disk.old) (D.view disk.new) }
-    ensures sectors { (D.view disk.new).sectors ≡ (D.view disk.old).sectors }
-    ensures later { (D.view disk.old).failures ≤ (D.view disk.new).failures }
+    ensures reads { ReadsOrFails (IsOfReading journal.old.end) (D.view disk.old) (D.view disk.new) result }
 {
     while play_next(alloc, disk, journal, register)? {}
     Ok(())
@@ -146,20 +117,14 @@ fn first_fault<A: Allocator, D: Disk>(
     journal: &mut Journal<A>,
     fault: StoreFault,
 ) -> StoreFault
-    requires before { journal.old.next < journal.old.end }
-    requires within { journal.old.end ≤ (D.view disk.old).sectors }
-    requires room { IsCounted journal.old }
-    ensures exact { (D.view disk.old).honest → (is : Result (State × ℕ) StoreFault)
-        → Stops fault (held_by (half_in A journal.old (D.view disk.old))) is → Fails result is }
-    ensures memory { result ≡ NoMemory → (D.view disk.old).honest → HasRecordsIn A journal.old (D.view disk.old) }
+    requires readable { IsReadable journal.old (D.view disk.old) }
+    ensures exact { (D.view disk.old).honest → ReportsFirst A journal.old (D.view disk.old) fault result }
+    ensures memory { result ≡ NoMemory → (D.view disk.old).honest → (fault ≡ NoMemory) × HasRecordsIn A journal.old (D.view disk.old) }
+    ensures calls { result ≡ NoMemory → (D.view disk.old).honest → IsReadOnce A journal.old (D.view disk.old) (D.view disk.new) }
     ensures same { journal.new ≡ journal.old }
-    ensures kinds { IsOfOpening fault → IsOfOpening result }
-    ensures damaged { (at : ℕ) → result ≡ Damaged at → (fault ≡ Damaged at) ⊎ (at < journal.old.end) }
-    ensures only_read { (D.view disk.old).honest → HasOnlyRead (D.view disk.old) (D.view disk.new) }
-    ensures only_reads { before_reads (D.view disk.new).calls ≡ before_reads (D.view disk.old).calls }
+    ensures kinds { (result ≡ fault) ⊎ IsOfSector journal.old.end result }
+    ensures reads { OnlyReads (D.view disk.old) (D.view disk.new) ⊥ }
     ensures device { result ≡ DiskFault → (fault ≡ DiskFault) ⊎ HasFailed (D.view disk.old) (D.view disk.new) }
-    ensures sectors { (D.view disk.new).sectors ≡ (D.view disk.old).sectors }
-    ensures later { (D.view disk.old).failures ≤ (D.view disk.new).failures }
 {
     match fault {
         StoreFault::DiskFault => StoreFault::DiskFault,
@@ -178,26 +143,14 @@ pub(crate) fn play<A: Allocator + Copy, D: Disk>(
     journal: &mut Journal<A>,
     register: &mut Register<A>,
 ) -> Result<(), StoreFault>
-    requires before { journal.old.next < journal.old.end }
-    requires within { journal.old.end ≤ (D.view disk.old).sectors }
-    requires room { IsCounted journal.old }
-    ensures exact { (D.view disk.old).honest
-        → EndsAt (λ done. journal.new.next) result register.new (played_from register.old (half_in A journal.old (D.view disk.old))) }
-    ensures memory { IsErrOf result NoMemory → (D.view disk.old).honest → HasRecordsIn A journal.old (D.view disk.old) }
-    ensures limits { register.new.registered.limits ≡ register.old.registered.limits }
-    ensures first { journal.new.first ≡ journal.old.first }
-    ensures end { journal.new.end ≡ journal.old.end }
-    ensures next { journal.new.next < journal.old.end }
-    ensures form { journal.new.form ≡ journal.old.form }
+    requires readable { IsReadable journal.old (D.view disk.old) }
+    ensures exact { (D.view disk.old).honest → PlaysHalf A journal.old journal.new register.old register.new (D.view disk.old) result }
+    ensures memory { IsErrOf result NoMemory → (D.view disk.old).honest
+        → (records : HasRecordsIn A journal.old (D.view disk.old)) × HasRunShort A journal.old journal.new register.old register.new (D.view disk.old)
+        (HasReadAgain (D.view disk.old).calls (D.view disk.new).calls journal.old.next (records.0.1 + 1)) }
+    ensures moves { PlaysWithin journal.old journal.new register.old register.new }
     ensures counts { OnOk result (journal.old.count ≡ register.old.count → journal.new.count ≡ register.new.count) }
-    ensures room { IsCounted journal.new }
-    ensures kinds { IfErr result IsOfOpening }
-    ensures damaged { (at : ℕ) → IsErrOf result (Damaged at) → at < journal.old.end }
-    ensures only_read { (D.view disk.old).honest → HasOnlyRead (D.view disk.old) (D.view disk.new) }
-    ensures only_reads { before_reads (D.view disk.new).calls ≡ before_reads (D.view disk.old).calls }
-    ensures fault { IsErrOf result DiskFault → HasFailed (D.view disk.old) (D.view disk.new) }
-    ensures sectors { (D.view disk.new).sectors ≡ (D.view disk.old).sectors }
-    ensures later { (D.view disk.old).failures ≤ (D.view disk.new).failures }
+    ensures reads { ReadsOrFails (IsOfReading journal.old.end) (D.view disk.old) (D.view disk.new) result }
 {
     match play_on(alloc, disk, journal, register) {
         Ok(()) => Ok(()),

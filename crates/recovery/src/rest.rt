@@ -1,26 +1,21 @@
 //! What is left of the register on a damaged disk.
-ghost use Rattle.std.specs.Prelude.{◌≡◌, ◌≤◌, IfErr, IfOk, IfSome, IsErrOf, MatchOption, None, Ok, true};
-ghost use Rattle.sector_disk.specs.Disk.{HasFailed};
-ghost use Rattle.sector_disk.specs.Reading.{before_reads};
-ghost use Rattle.sector_disk.specs.Run.{HasOnlyRead};
+ghost use Rattle.std.specs.Prelude.{◌≡◌, ◌≤◌, ◌⊎◌, IfErr, IfOk, IfSome, IsErrOf, None, true};
+ghost use Rattle.sector_disk.specs.Disk.{sector};
+ghost use Rattle.sector_disk.specs.Effects.{OnlyReads};
 ghost use Rattle.centre_core.specs.State.{last_number};
-ghost use Rattle.image_rows.specs.Rows.{Header, HeaderRow};
-ghost use Rattle.image_rows.specs.RowReading.{IsRow};
 ghost use Rattle.image_rows.specs.Loading.{header_may};
 ghost use Rattle.gated_journal.specs.Half.{is_open};
-ghost use Rattle.sector_disk.specs.Disk.{sector};
-ghost use Rattle.checkpoint.specs.declared.side.Side.{Side};
-ghost use Rattle.checkpoint.specs.declared.layout.Layout.{Layout};
-ghost use Rattle.checkpoint.specs.Layout.{disk_size, half_at, half_end, root_at, slot_at};
-ghost use Rattle.checkpoint.specs.OnSide.{ReadsForm, slot_form};
-ghost use Rattle.recovery.specs.declared.fault.StoreFault.TheVariants.{DiskFault};
-ghost use Rattle.recovery.specs.Checking.{IsOfCheck};
+ghost use Rattle.checkpoint.specs.Layout.{disk_size, root_at};
+ghost use Rattle.recovery.specs.declared.fault.StoreFault.TheVariants.{DiskFault, NoMemory};
+ghost use Rattle.recovery.specs.Checking.{IsNoDamage};
 ghost use Rattle.recovery.specs.Damage.{IsOfDamage};
 ghost use Rattle.recovery.specs.Label.{layout_in};
-ghost use Rattle.recovery.specs.Opening.{Fails};
+ghost use Rattle.recovery.specs.Opening.{Fails, HasNoFaultYet};
 ghost use Rattle.recovery.specs.Opens.{opens};
-ghost use Rattle.recovery.specs.Rests.{HasHeader, HasNoRest, IsGreaterSide, IsLeft, IsRestOf, IsSizeOf, LeadsTo, NothingIsLeft};
-ghost use Rattle.recovery.specs.Rests.{greater_side, left_in, left_out, none_left_out};
+ghost use Rattle.recovery.specs.Rests.{HasGoodHeader, HasLaterOnDisk, HasSomeHeader, IsDamagedWithHeader, IsDiskRest, IsSizeOf};
+ghost use Rattle.recovery.specs.Rests.{greater_side, left_out, none_left_out};
+ghost use Rattle.recovery.specs.Inside.Reads.{ReadsOrFails};
+ghost use Rattle.recovery.specs.Inside.Rests.{IsGoodHeader, IsGreaterRest, IsSideRest, IsStatedRest, SideHasLater, SideLeads};
 
 use crate::StoreFault;
 use crate::label::read_layout;
@@ -63,7 +58,8 @@ pub struct Rest<A: Allocator> {
     /// The first data sector of that record, if there is one: it can't be read, or a command of it is not accepted. The commands of it
     /// before that one are applied.
     pub stop: Option<u64>,
-    /// How many records after it can be read. If it can't be read itself, they are looked for where it states that it ends.
+    /// How many records after it can be read, one after another. If it can't be read itself, they are looked for where it states that it
+    /// ends. None if there is no such record.
     pub later: u64,
 }
 
@@ -92,6 +88,7 @@ fn rest_by<A: Allocator>(
     ensures out { result.left_out ≡ left_out stated.now kept.now }
     ensures register { result.register ≡ register }
     ensures stop { result.stop ≡ end.0 }
+    ensures later { result.later ≡ end.1 }
 {
     let (stop, later) = end;
     Rest {
@@ -115,15 +112,9 @@ fn play_half<A: Allocator + Copy, D: Disk>(
 ) -> Result<(Option<u64>, u64), StoreFault>
     requires room { disk_size layout.now ≤ (D.view disk.old).sectors }
     requires counts { place.1.header.count ≤ last_number }
-    ensures records { IfOk result (λ x. (D.view disk.old).honest → ReadsForm layout.now place.0 place.1.form (D.view disk.old)
-        → LeadsTo A (slot_form layout.now place.0 (D.view disk.old).reads) (D.view disk.old).reads (half_end layout.now place.0)
-        place.1.header.count (half_at layout.now place.0) register.old register.new x.0) }
-    ensures kinds { IfErr result IsOfDamage }
-    ensures only_read { (D.view disk.old).honest → HasOnlyRead (D.view disk.old) (D.view disk.new) }
-    ensures only_reads { before_reads (D.view disk.new).calls ≡ before_reads (D.view disk.old).calls }
-    ensures fault { IsErrOf result DiskFault → HasFailed (D.view disk.old) (D.view disk.new) }
-    ensures sectors { (D.view disk.new).sectors ≡ (D.view disk.old).sectors }
-    ensures later { (D.view disk.old).failures ≤ (D.view disk.new).failures }
+    ensures records { IfOk result (λ x. SideLeads A layout.now place (D.view disk.old) register.old register.new x.0) }
+    ensures after { IfOk result (λ x. SideHasLater A layout.now place (D.view disk.old) x.0 x.1) }
+    ensures reads { ReadsOrFails IsOfDamage (D.view disk.old) (D.view disk.new) result }
 {
     let (side, stated) = place;
     let mut journal = Journal::start(
@@ -150,18 +141,12 @@ fn read_after_base<A: Allocator + Copy, D: Disk>(
 ) -> Result<Rest<A>, StoreFault>
     requires room { disk_size layout.now ≤ (D.view disk.old).sectors }
     requires counts { place.1.header.count ≤ last_number }
-    ensures records { IfOk result (λ rest. (D.view disk.old).honest → ReadsForm layout.now place.0 place.1.form (D.view disk.old)
-        → LeadsTo A (slot_form layout.now place.0 (D.view disk.old).reads) (D.view disk.old).reads (half_end layout.now place.0)
-        place.1.header.count (half_at layout.now place.0) base.1 rest.register rest.stop) }
+    ensures records { IfOk result (λ rest. SideLeads A layout.now place (D.view disk.old) base.1 rest.register rest.stop) }
+    ensures after { IfOk result (λ rest. SideHasLater A layout.now place (D.view disk.old) rest.stop rest.later) }
     ensures side { IfOk result (λ rest. rest.side ≡ place.0) }
     ensures epoch { IfOk result (λ rest. rest.epoch ≡ place.1.header.epoch) }
     ensures out { IfOk result (λ rest. rest.left_out ≡ left_out place.1.header base.0) }
-    ensures kinds { IfErr result IsOfDamage }
-    ensures only_read { (D.view disk.old).honest → HasOnlyRead (D.view disk.old) (D.view disk.new) }
-    ensures only_reads { before_reads (D.view disk.new).calls ≡ before_reads (D.view disk.old).calls }
-    ensures fault { IsErrOf result DiskFault → HasFailed (D.view disk.old) (D.view disk.new) }
-    ensures sectors { (D.view disk.new).sectors ≡ (D.view disk.old).sectors }
-    ensures later { (D.view disk.old).failures ≤ (D.view disk.new).failures }
+    ensures reads { ReadsOrFails IsOfDamage (D.view disk.old) (D.view disk.new) result }
 {
     let (kept, mut register) = base;
     let (side, stated) = place;
@@ -184,16 +169,8 @@ fn read_stated<A: Allocator + Copy, D: Disk>(
 ) -> Result<Option<Rest<A>>, StoreFault>
     requires room { disk_size layout.now ≤ (D.view disk.old).sectors }
     requires may { header_may layout.now.limits stated.header ≡ true }
-    ensures left { IfOk result (λ found. (D.view disk.old).honest → ReadsForm layout.now side stated.form (D.view disk.old) → IsRow (HeaderRow stated.header)
-        → HasHeader layout.now side (D.view disk.old).reads stated.header
-        → MatchOption found (left_in layout.now.limits (D.view disk.old).reads (slot_at layout.now side) stated.header ≡ None)
-        (λ rest. (rest.side ≡ side) × IsLeft A layout.now side (D.view disk.old).reads rest.epoch rest.left_out rest.register rest.stop)) }
-    ensures kinds { IfErr result IsOfDamage }
-    ensures only_read { (D.view disk.old).honest → HasOnlyRead (D.view disk.old) (D.view disk.new) }
-    ensures only_reads { before_reads (D.view disk.new).calls ≡ before_reads (D.view disk.old).calls }
-    ensures fault { IsErrOf result DiskFault → HasFailed (D.view disk.old) (D.view disk.new) }
-    ensures sectors { (D.view disk.new).sectors ≡ (D.view disk.old).sectors }
-    ensures later { (D.view disk.old).failures ≤ (D.view disk.new).failures }
+    ensures left { IfOk result (λ found. (D.view disk.old).honest → IsStatedRest A layout.now side stated (D.view disk.old) found) }
+    ensures reads { ReadsOrFails IsOfDamage (D.view disk.old) (D.view disk.new) result }
 {
     let slot = Slot {
         limits: layout.limits(),
@@ -216,11 +193,7 @@ fn is_open<D: Disk>(disk: &mut D, layout: &Layout, side: Side) -> Result<bool, S
     requires room { disk_size layout.now ≤ (D.view disk.old).sectors }
     ensures exact { IfOk result (λ is. (D.view disk.old).honest → is ≡ is_open (sector (D.view disk.old).reads (root_at side))) }
     ensures kinds { IfErr result (λ fault. fault ≡ DiskFault) }
-    ensures only_read { (D.view disk.old).honest → HasOnlyRead (D.view disk.old) (D.view disk.new) }
-    ensures only_reads { before_reads (D.view disk.new).calls ≡ before_reads (D.view disk.old).calls }
-    ensures fault { IsErrOf result DiskFault → HasFailed (D.view disk.old) (D.view disk.new) }
-    ensures sectors { (D.view disk.new).sectors ≡ (D.view disk.old).sectors }
-    ensures later { (D.view disk.old).failures ≤ (D.view disk.new).failures }
+    ensures reads { OnlyReads (D.view disk.old) (D.view disk.new) (IsErrOf result DiskFault) }
 {
     let mut bytes = [0; 512];
     disk.read(layout.root(side), &mut bytes)?;
@@ -234,15 +207,10 @@ fn read_good_header<D: Disk>(
     side: Side,
 ) -> Result<Option<Stated>, StoreFault>
     requires room { disk_size layout.now ≤ (D.view disk.old).sectors }
-    ensures header { IfOk result (λ found. (D.view disk.old).honest → MatchOption found ((h : Header) → HasHeader layout.now side (D.view disk.old).reads h → ⊥)
-        (λ stated. HasHeader layout.now side (D.view disk.old).reads stated.header × ReadsForm layout.now side stated.form (D.view disk.old))) }
+    ensures header { IfOk result (λ found. (D.view disk.old).honest → IsGoodHeader layout.now side (D.view disk.old) found) }
     ensures may { IfOk result (λ found. IfSome found (λ stated. header_may layout.now.limits stated.header ≡ true)) }
-    ensures kinds { IfErr result IsOfDamage }
-    ensures only_read { (D.view disk.old).honest → HasOnlyRead (D.view disk.old) (D.view disk.new) }
-    ensures only_reads { before_reads (D.view disk.new).calls ≡ before_reads (D.view disk.old).calls }
-    ensures fault { IsErrOf result DiskFault → HasFailed (D.view disk.old) (D.view disk.new) }
-    ensures sectors { (D.view disk.new).sectors ≡ (D.view disk.old).sectors }
-    ensures later { (D.view disk.old).failures ≤ (D.view disk.new).failures }
+    ensures device { IfErr result (λ fault. fault ≡ DiskFault) }
+    ensures reads { ReadsOrFails IsOfDamage (D.view disk.old) (D.view disk.new) result }
 {
     if !is_open(disk, layout, side)? {
         return Ok(None);
@@ -253,7 +221,7 @@ fn read_good_header<D: Disk>(
     }
 }
 
-// What is left of a side: nothing if its root is closed, or if its header is damaged.
+// What is left of a side: nothing if its root is closed, if its header is damaged or beyond the limits, or if its rows make no register.
 fn read_side_rest<A: Allocator + Copy, D: Disk>(
     alloc: A,
     disk: &mut D,
@@ -261,14 +229,9 @@ fn read_side_rest<A: Allocator + Copy, D: Disk>(
     side: Side,
 ) -> Result<Option<Rest<A>>, StoreFault>
     requires room { disk_size layout.now ≤ (D.view disk.old).sectors }
-    ensures left { IfOk result (λ found. (D.view disk.old).honest → MatchOption found (NothingIsLeft layout.now side (D.view disk.old).reads)
-        (λ rest. (rest.side ≡ side) × IsLeft A layout.now side (D.view disk.old).reads rest.epoch rest.left_out rest.register rest.stop)) }
-    ensures kinds { IfErr result IsOfDamage }
-    ensures only_read { (D.view disk.old).honest → HasOnlyRead (D.view disk.old) (D.view disk.new) }
-    ensures only_reads { before_reads (D.view disk.new).calls ≡ before_reads (D.view disk.old).calls }
-    ensures fault { IsErrOf result DiskFault → HasFailed (D.view disk.old) (D.view disk.new) }
-    ensures sectors { (D.view disk.new).sectors ≡ (D.view disk.old).sectors }
-    ensures later { (D.view disk.old).failures ≤ (D.view disk.new).failures }
+    ensures left { IfOk result (λ found. (D.view disk.old).honest → IsSideRest A layout.now side (D.view disk.old).reads found) }
+    ensures memory { IsErrOf result NoMemory → (D.view disk.old).honest → HasGoodHeader layout.now side (D.view disk.old).reads }
+    ensures reads { ReadsOrFails IsOfDamage (D.view disk.old) (D.view disk.new) result }
 {
     row_read_back();
     let found = read_good_header(disk, layout, side)?;
@@ -287,12 +250,8 @@ fn read_size<A: Allocator + Copy, D: Disk>(
 ) -> Result<Option<(u64, u64)>, StoreFault>
     requires room { disk_size layout.now ≤ (D.view disk.old).sectors }
     ensures size { IfOk result (λ size. (D.view disk.old).honest → IsSizeOf A layout.now side (D.view disk.old).reads size) }
-    ensures kinds { IfErr result IsOfDamage }
-    ensures only_read { (D.view disk.old).honest → HasOnlyRead (D.view disk.old) (D.view disk.new) }
-    ensures only_reads { before_reads (D.view disk.new).calls ≡ before_reads (D.view disk.old).calls }
-    ensures fault { IsErrOf result DiskFault → HasFailed (D.view disk.old) (D.view disk.new) }
-    ensures sectors { (D.view disk.new).sectors ≡ (D.view disk.old).sectors }
-    ensures later { (D.view disk.old).failures ≤ (D.view disk.new).failures }
+    ensures memory { IsErrOf result NoMemory → (D.view disk.old).honest → HasGoodHeader layout.now side (D.view disk.old).reads }
+    ensures reads { ReadsOrFails IsOfDamage (D.view disk.old) (D.view disk.new) result }
 {
     let found = read_side_rest(alloc, disk, layout, side)?;
     match found {
@@ -327,17 +286,10 @@ fn read_greater_rest<A: Allocator + Copy, D: Disk>(
     alloc: A,
     disk: &mut D,
 ) -> Result<Option<Rest<A>>, StoreFault>
-    ensures left { IfOk result (λ found. (D.view disk.old).honest → (layout : Layout) × (side : Side)
-        × (layout_in (D.view disk.old).reads ≡ Ok layout) × IsGreaterSide A layout (D.view disk.old).reads side
-        × MatchOption found (NothingIsLeft layout side (D.view disk.old).reads)
-        (λ rest. (rest.side ≡ side) × IsLeft A layout side (D.view disk.old).reads rest.epoch rest.left_out rest.register rest.stop)) }
+    ensures left { IfOk result (λ found. (D.view disk.old).honest → IsGreaterRest A (D.view disk.old).reads found) }
+    ensures memory { IsErrOf result NoMemory → (D.view disk.old).honest → HasSomeHeader (D.view disk.old).reads }
     ensures faults { IfErr result (λ fault. (D.view disk.old).honest → Fails fault (layout_in (D.view disk.old).reads)) }
-    ensures kinds { IfErr result IsOfCheck }
-    ensures only_read { (D.view disk.old).honest → HasOnlyRead (D.view disk.old) (D.view disk.new) }
-    ensures only_reads { before_reads (D.view disk.new).calls ≡ before_reads (D.view disk.old).calls }
-    ensures fault { IsErrOf result DiskFault → HasFailed (D.view disk.old) (D.view disk.new) }
-    ensures sectors { (D.view disk.new).sectors ≡ (D.view disk.old).sectors }
-    ensures later { (D.view disk.old).failures ≤ (D.view disk.new).failures }
+    ensures reads { ReadsOrFails IsNoDamage (D.view disk.old) (D.view disk.new) result }
 {
     let layout = read_layout(disk)?;
     let a = read_size(alloc, disk, &layout, Side::A)?;
@@ -352,6 +304,7 @@ fn whole<A: Allocator>(opened: Opened<A>) -> Rest<A>
     ensures epoch { result.epoch ≡ opened.epoch }
     ensures none { result.left_out ≡ none_left_out }
     ensures stop { result.stop ≡ None }
+    ensures later { result.later ≡ 0 }
 {
     let Opened {
         side,
@@ -384,17 +337,19 @@ pub fn read_rest<A: Allocator + Copy, D: Disk>(
     disk: &mut D,
 ) -> Result<Option<Rest<A>>, StoreFault>
     // It is what is left of the disk as it reads.
-    ensures exact { IfOk result (λ found. (D.view disk.old).honest → MatchOption found (HasNoRest A (D.view disk.old).reads)
-        (λ rest. IsRestOf A (D.view disk.old).reads rest.side rest.epoch rest.left_out rest.register rest.stop)) }
+    ensures exact { IfOk result (λ found. (D.view disk.old).honest → IsDiskRest A (D.view disk.old).reads found) }
+
+    // So many records can be read after the one at which those of the side end.
+    ensures after { IfOk result (λ found. (D.view disk.old).honest → IfSome found (HasLaterOnDisk A (D.view disk.old).reads)) }
 
     // A disk without a layout has this fault. No other fault of a disk is reported, but a device that failed, or out of memory.
     ensures faults { IfErr result (λ fault. (D.view disk.old).honest → Fails fault (opens A (D.view disk.old).reads)) }
-    ensures kinds { IfErr result IsOfCheck }
-    ensures only_read { (D.view disk.old).honest → HasOnlyRead (D.view disk.old) (D.view disk.new) }
-    ensures only_reads { before_reads (D.view disk.new).calls ≡ before_reads (D.view disk.old).calls }
-    ensures fault { IsErrOf result DiskFault → HasFailed (D.view disk.old) (D.view disk.new) }
-    ensures sectors { (D.view disk.new).sectors ≡ (D.view disk.old).sectors }
-    ensures later { (D.view disk.old).failures ≤ (D.view disk.new).failures }
+
+    // Out of memory comes only where memory may be needed: opening met no fault, or the disk is damaged and a side has a header.
+    ensures memory { IsErrOf result NoMemory → (D.view disk.old).honest
+        → HasNoFaultYet A (D.view disk.old).reads (D.view disk.old).calls (D.view disk.new).calls ⊎ IsDamagedWithHeader A (D.view disk.old).reads }
+    ensures kinds { IfErr result IsNoDamage }
+    ensures reads { OnlyReads (D.view disk.old) (D.view disk.new) (IsErrOf result DiskFault) }
 {
     match read_all(alloc, disk) {
         Ok(opened) => Ok(Some(whole(opened))),

@@ -1,14 +1,13 @@
 //! The records of a side that can still be read, applied in order up to the first that is damaged.
-ghost use Rattle.std.specs.Prelude.{◌≡◌, ◌<◌, ◌≤◌, IfErr, IfOk, IfSome, IsErrOf, None, true};
-ghost use Rattle.sector_disk.specs.Disk.{HasFailed};
-ghost use Rattle.sector_disk.specs.Reading.{before_reads};
-ghost use Rattle.sector_disk.specs.Run.{HasOnlyRead};
+ghost use Rattle.std.specs.Prelude.{◌≡◌, ◌<◌, IfErr, IfOk, IfSome, None, true};
 ghost use Rattle.gated_journal.specs.Half.{stated_size};
 ghost use Rattle.gated_journal.specs.Settled.{IsCounted};
-ghost use Rattle.recovery.specs.declared.fault.StoreFault.TheVariants.{DiskFault, NoMemory};
+ghost use Rattle.recovery.specs.declared.fault.StoreFault.TheVariants.{NoMemory};
 ghost use Rattle.recovery.specs.Damage.{IsOfDamage};
 ghost use Rattle.recovery.specs.Rests.{run_while};
-ghost use Rattle.recovery.specs.Inside.Rests.{LeadsFrom, LeadsOn};
+ghost use Rattle.recovery.specs.Inside.Played.{IsReadable, MovesWithin};
+ghost use Rattle.recovery.specs.Inside.Reads.{ReadsOrFails};
+ghost use Rattle.recovery.specs.Inside.Rests.{CanReadAfter, EndsAt, GoesOnOrEnds, LeadsFrom, LeadsOn, ReadsOn, gate_from, gate_if};
 
 use crate::StoreFault;
 use byteorder::{BigEndian, ByteOrder};
@@ -37,7 +36,7 @@ fn apply_while<A: Allocator + Copy>(
 
 // Reads the record at the next gate, and applies its commands. Returns whether all are accepted; if the record is at fault,
 // `stop` has its sector.
-#[tactic(auto, using(crate::proofs::Remains::ends_closed, crate::proofs::Remains::ends_bad, crate::proofs::Remains::ends_refused, crate::proofs::Remains::goes_on))]
+#[tactic(auto, using(crate::proofs::Remains::ends_closed, crate::proofs::Remains::ends_bad, crate::proofs::Remains::ends_refused, crate::proofs::Remains::goes_on, crate::proofs::Later::later_bad))]
 fn play_or_stop<A: Allocator + Copy, D: Disk>(
     alloc: A,
     disk: &mut D,
@@ -45,25 +44,15 @@ fn play_or_stop<A: Allocator + Copy, D: Disk>(
     register: &mut Register<A>,
     stop: &mut Option<u64>,
 ) -> Result<bool, StoreFault>
-    requires before { journal.old.next < journal.old.end }
-    requires within { journal.old.end ≤ (D.view disk.old).sectors }
-    requires room { IsCounted journal.old }
+    requires readable { IsReadable journal.old (D.view disk.old) }
     requires none { stop.old ≡ None }
     ensures exact { IfOk result (λ more. (D.view disk.old).honest → LeadsOn A more journal.old journal.new (D.view disk.old) register.old register.new stop.new) }
+    ensures after { IfOk result (λ more. (D.view disk.old).honest → GoesOnOrEnds A more journal.old journal.new (D.view disk.old) stop.new) }
     ensures none { IfOk result (λ more. more ≡ true → stop.new ≡ None) }
     ensures on { IfOk result (λ more. more ≡ true → journal.old.next < journal.new.next) }
     ensures bad { IfSome stop.new (λ at. at < journal.old.end) }
-    ensures first { journal.new.first ≡ journal.old.first }
-    ensures end { journal.new.end ≡ journal.old.end }
-    ensures next { journal.new.next < journal.old.end }
-    ensures form { journal.new.form ≡ journal.old.form }
-    ensures room { IsCounted journal.new }
-    ensures kinds { IfErr result IsOfDamage }
-    ensures only_read { (D.view disk.old).honest → HasOnlyRead (D.view disk.old) (D.view disk.new) }
-    ensures only_reads { before_reads (D.view disk.new).calls ≡ before_reads (D.view disk.old).calls }
-    ensures fault { IsErrOf result DiskFault → HasFailed (D.view disk.old) (D.view disk.new) }
-    ensures sectors { (D.view disk.new).sectors ≡ (D.view disk.old).sectors }
-    ensures later { (D.view disk.old).failures ≤ (D.view disk.new).failures }
+    ensures moves { MovesWithin journal.old journal.new }
+    ensures reads { ReadsOrFails IsOfDamage (D.view disk.old) (D.view disk.new) result }
 {
     match journal.read_next(alloc, disk) {
         Ok(None) => Ok(false),
@@ -90,22 +79,12 @@ pub(crate) fn play_rest<A: Allocator + Copy, D: Disk>(
     journal: &mut Journal<A>,
     register: &mut Register<A>,
 ) -> Result<Option<u64>, StoreFault>
-    requires before { journal.old.next < journal.old.end }
-    requires within { journal.old.end ≤ (D.view disk.old).sectors }
-    requires room { IsCounted journal.old }
+    requires readable { IsReadable journal.old (D.view disk.old) }
     ensures exact { IfOk result (λ bad. (D.view disk.old).honest → LeadsFrom A journal.old (D.view disk.old) register.old register.new bad) }
+    ensures after { IfOk result (λ bad. (D.view disk.old).honest → EndsAt A journal.old journal.new (D.view disk.old) bad) }
     ensures bad { IfOk result (λ bad. IfSome bad (λ at. at < journal.old.end)) }
-    ensures first { journal.new.first ≡ journal.old.first }
-    ensures end { journal.new.end ≡ journal.old.end }
-    ensures next { journal.new.next < journal.old.end }
-    ensures form { journal.new.form ≡ journal.old.form }
-    ensures room { IsCounted journal.new }
-    ensures kinds { IfErr result IsOfDamage }
-    ensures only_read { (D.view disk.old).honest → HasOnlyRead (D.view disk.old) (D.view disk.new) }
-    ensures only_reads { before_reads (D.view disk.new).calls ≡ before_reads (D.view disk.old).calls }
-    ensures fault { IsErrOf result DiskFault → HasFailed (D.view disk.old) (D.view disk.new) }
-    ensures sectors { (D.view disk.new).sectors ≡ (D.view disk.old).sectors }
-    ensures later { (D.view disk.old).failures ≤ (D.view disk.new).failures }
+    ensures moves { MovesWithin journal.old journal.new }
+    ensures reads { ReadsOrFails IsOfDamage (D.view disk.old) (D.view disk.new) result }
 {
     let mut stop = None;
     while play_or_stop(alloc, disk, journal, register, &mut stop)? {}
@@ -123,25 +102,20 @@ fn stated_size(form: Form, bytes: &[u8; 512]) -> u64
 }
 
 // Moves on to the gate after the record in this sector, by what the sector states. Returns whether there can be one.
-#[tactic(auto, using(sector_disk::proofs::Reading::one_read))]
+#[tactic(auto, using(sector_disk::proofs::Reading::one_read, crate::proofs::Later::passed, crate::proofs::Later::at_gate))]
 fn pass_over<A: Allocator, D: Disk>(
     disk: &mut D,
     journal: &mut Journal<A>,
     at: u64,
 ) -> Result<bool, StoreFault>
-    requires before { journal.old.next < journal.old.end }
-    requires within { journal.old.end ≤ (D.view disk.old).sectors }
-    requires room { IsCounted journal.old }
+    requires readable { IsReadable journal.old (D.view disk.old) }
     requires at { at < journal.old.end }
+    ensures exact { IfOk result (λ passed. (D.view disk.old).honest → gate_if passed journal.new ≡ gate_from journal.old (D.view disk.old) at) }
+    ensures form { journal.new.form ≡ journal.old.form }
     ensures end { journal.new.end ≡ journal.old.end }
     ensures next { journal.new.next < journal.old.end }
     ensures room { IsCounted journal.new }
-    ensures kinds { IfErr result IsOfDamage }
-    ensures only_read { (D.view disk.old).honest → HasOnlyRead (D.view disk.old) (D.view disk.new) }
-    ensures only_reads { before_reads (D.view disk.new).calls ≡ before_reads (D.view disk.old).calls }
-    ensures fault { IsErrOf result DiskFault → HasFailed (D.view disk.old) (D.view disk.new) }
-    ensures sectors { (D.view disk.new).sectors ≡ (D.view disk.old).sectors }
-    ensures later { (D.view disk.old).failures ≤ (D.view disk.new).failures }
+    ensures reads { ReadsOrFails IsOfDamage (D.view disk.old) (D.view disk.new) result }
 {
     let place = journal.place();
     if at < place.next {
@@ -163,24 +137,17 @@ fn pass_over<A: Allocator, D: Disk>(
 }
 
 // Passes over the record at the next gate, if there is one that can be read.
+#[tactic(auto, using(crate::proofs::Later::none_closed, crate::proofs::Later::none_bad))]
 fn has_next<A: Allocator + Copy, D: Disk>(
     alloc: A,
     disk: &mut D,
     journal: &mut Journal<A>,
 ) -> Result<bool, StoreFault>
-    requires before { journal.old.next < journal.old.end }
-    requires within { journal.old.end ≤ (D.view disk.old).sectors }
-    requires room { IsCounted journal.old }
+    requires readable { IsReadable journal.old (D.view disk.old) }
+    ensures exact { IfOk result (λ more. (D.view disk.old).honest → ReadsOn A more journal.old journal.new (D.view disk.old)) }
     ensures on { IfOk result (λ more. more ≡ true → journal.old.next < journal.new.next) }
-    ensures end { journal.new.end ≡ journal.old.end }
-    ensures next { journal.new.next < journal.old.end }
-    ensures room { IsCounted journal.new }
-    ensures kinds { IfErr result IsOfDamage }
-    ensures only_read { (D.view disk.old).honest → HasOnlyRead (D.view disk.old) (D.view disk.new) }
-    ensures only_reads { before_reads (D.view disk.new).calls ≡ before_reads (D.view disk.old).calls }
-    ensures fault { IsErrOf result DiskFault → HasFailed (D.view disk.old) (D.view disk.new) }
-    ensures sectors { (D.view disk.new).sectors ≡ (D.view disk.old).sectors }
-    ensures later { (D.view disk.old).failures ≤ (D.view disk.new).failures }
+    ensures moves { MovesWithin journal.old journal.new }
+    ensures reads { ReadsOrFails IsOfDamage (D.view disk.old) (D.view disk.new) result }
 {
     match journal.read_next(alloc, disk) {
         Ok(None) | Err(JournalError::Damaged(_)) => Ok(false),
@@ -196,23 +163,17 @@ pub(crate) fn count_later<A: Allocator + Copy, D: Disk>(
     journal: &mut Journal<A>,
     at: u64,
 ) -> Result<u64, StoreFault>
-    requires before { journal.old.next < journal.old.end }
-    requires within { journal.old.end ≤ (D.view disk.old).sectors }
-    requires room { IsCounted journal.old }
+    requires readable { IsReadable journal.old (D.view disk.old) }
     requires at { at < journal.old.end }
-    ensures kinds { IfErr result IsOfDamage }
-    ensures only_read { (D.view disk.old).honest → HasOnlyRead (D.view disk.old) (D.view disk.new) }
-    ensures only_reads { before_reads (D.view disk.new).calls ≡ before_reads (D.view disk.old).calls }
-    ensures fault { IsErrOf result DiskFault → HasFailed (D.view disk.old) (D.view disk.new) }
-    ensures sectors { (D.view disk.new).sectors ≡ (D.view disk.old).sectors }
-    ensures later { (D.view disk.old).failures ≤ (D.view disk.new).failures }
+    ensures exact { IfOk result (λ later. (D.view disk.old).honest → CanReadAfter A journal.old (D.view disk.old) at later) }
+    ensures reads { ReadsOrFails IsOfDamage (D.view disk.old) (D.view disk.new) result }
 {
     if !pass_over(disk, journal, at)? {
         return Ok(0);
     }
-    let mut later = 0u64;
+    let mut later = 0;
     while has_next(alloc, disk, journal)? {
-        later = later.saturating_add(1);
+        later += 1;
     }
     Ok(later)
 }

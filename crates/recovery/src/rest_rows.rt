@@ -1,15 +1,13 @@
 //! The rows of a side's image that can still be read, as a register.
-ghost use Rattle.std.specs.Prelude.{◌≡◌, ◌+◌, ◌<◌, ◌≤◌, ◌^◌, ℕ, IfErr, IfOk, IsErrOf, OnErr, OnOk};
-ghost use Rattle.sector_disk.specs.Disk.{HasFailed, sector};
-ghost use Rattle.sector_disk.specs.Reading.{before_reads};
-ghost use Rattle.sector_disk.specs.Run.{HasOnlyRead};
+ghost use Rattle.std.specs.Prelude.{◌≡◌, ◌+◌, ◌<◌, ◌≤◌, ◌^◌, ℕ, IfErr, IfOk, OnOk};
 ghost use Rattle.image_rows.specs.Rows.{HeaderRow};
-ghost use Rattle.image_rows.specs.RowReading.{IsRow, row_in};
-ghost use Rattle.image_rows.specs.Held.{IsOutcome, taken_from};
-ghost use Rattle.recovery.specs.declared.fault.StoreFault.TheVariants.{DiskFault, NoMemory};
-ghost use Rattle.recovery.specs.Damage.{IsOfDamage, fault_at};
-ghost use Rattle.recovery.specs.Rests.{kept_under, kept_with, left_in, lowered, rows_kept, rows_stated, unless_wrong, with_row, without_rows};
-ghost use Rattle.recovery.specs.Inside.Rests.{HasAtMost, kept_of};
+ghost use Rattle.image_rows.specs.RowReading.{IsRow};
+ghost use Rattle.image_rows.specs.Held.{IsOutcome};
+ghost use Rattle.recovery.specs.declared.fault.StoreFault.TheVariants.{NoMemory};
+ghost use Rattle.recovery.specs.Damage.{IsOfDamage};
+ghost use Rattle.recovery.specs.Rests.{lowered, rows_stated, with_row, without_rows};
+ghost use Rattle.recovery.specs.Inside.Reads.{ReadsOrFails};
+ghost use Rattle.recovery.specs.Inside.Rests.{HasAtMost, kept_after, kept_at, kept_by_header, kept_of, left_of, taken_at};
 
 use crate::row_faults::{fault_at, kind_at};
 use crate::{Kind, StoreFault};
@@ -61,8 +59,7 @@ fn takes_row<A: Allocator + Clone>(
     place: u64,
     bytes: &[u8; 512],
 ) -> Result<bool, StoreFault>
-    ensures taken { IfOk result (λ taken. IsOutcome (unless_wrong (fault_at stated.now place (row_in bytes.now)) (taken_from loader.old bytes.now))
-        loader.old taken loader.new) }
+    ensures taken { IfOk result (λ taken. IsOutcome (taken_at stated.now place bytes.now loader.old) loader.old taken loader.new) }
     ensures kinds { IfErr result (λ e. e ≡ NoMemory) }
 {
     if fault_at(stated, place, bytes).is_some() {
@@ -84,14 +81,9 @@ fn keep_row<A: Allocator + Clone, D: Disk>(
     requires fits { slot.now.first + place < 2 ^ 64 }
     requires few { HasAtMost 135232 kept.old }
     ensures kept { OnOk result ((D.view disk.old).honest → kept_of loader.new kept.new
-        ≡ kept_with slot.now.stated place (sector (D.view disk.old).reads (slot.now.first + place)) (kept_of loader.old kept.old)) }
+        ≡ kept_at slot.now (D.view disk.old).reads place (kept_of loader.old kept.old)) }
     ensures more { (n : ℕ) → HasAtMost n kept.old → OnOk result (HasAtMost (n + 1) kept.new) }
-    ensures kinds { IfErr result IsOfDamage }
-    ensures only_read { (D.view disk.old).honest → HasOnlyRead (D.view disk.old) (D.view disk.new) }
-    ensures only_reads { before_reads (D.view disk.new).calls ≡ before_reads (D.view disk.old).calls }
-    ensures fault { IsErrOf result DiskFault → HasFailed (D.view disk.old) (D.view disk.new) }
-    ensures sectors { (D.view disk.new).sectors ≡ (D.view disk.old).sectors }
-    ensures later { (D.view disk.old).failures ≤ (D.view disk.new).failures }
+    ensures reads { ReadsOrFails IsOfDamage (D.view disk.old) (D.view disk.new) result }
 {
     let mut bytes = [0; 512];
     disk.read(slot.first + place, &mut bytes)?;
@@ -135,13 +127,8 @@ fn keep_rows<A: Allocator + Clone, D: Disk>(
     requires fits { slot.now.first + rows_stated slot.now.stated < 2 ^ 64 }
     requires few { rows_stated slot.now.stated ≤ 135232 }
     ensures kept { IfOk result (λ kept. (D.view disk.old).honest → kept_of loader.new kept
-        ≡ rows_kept (D.view disk.old).reads slot.now.first slot.now.stated (kept_of loader.old (without_rows slot.now.stated)) (rows_stated slot.now.stated)) }
-    ensures kinds { IfErr result IsOfDamage }
-    ensures only_read { (D.view disk.old).honest → HasOnlyRead (D.view disk.old) (D.view disk.new) }
-    ensures only_reads { before_reads (D.view disk.new).calls ≡ before_reads (D.view disk.old).calls }
-    ensures fault { IsErrOf result DiskFault → HasFailed (D.view disk.old) (D.view disk.new) }
-    ensures sectors { (D.view disk.new).sectors ≡ (D.view disk.old).sectors }
-    ensures later { (D.view disk.old).failures ≤ (D.view disk.new).failures }
+        ≡ kept_after slot.now (D.view disk.old).reads loader.old) }
+    ensures reads { ReadsOrFails IsOfDamage (D.view disk.old) (D.view disk.new) result }
 {
     let mut kept = without_rows(&slot.stated);
     let rows = rows_stated(&slot.stated);
@@ -191,13 +178,8 @@ fn load<A: Allocator + Copy, D: Disk>(
     requires fits { slot.now.first + rows_stated slot.now.stated < 2 ^ 64 }
     requires few { rows_stated slot.now.stated ≤ 135232 }
     ensures kept { IfOk result (λ x. (D.view disk.old).honest → IsRow (HeaderRow header.now)
-        → kept_of x.0 x.1 ≡ kept_under slot.now.limits (D.view disk.old).reads slot.now.first slot.now.stated header.now) }
-    ensures kinds { IfErr result IsOfDamage }
-    ensures only_read { (D.view disk.old).honest → HasOnlyRead (D.view disk.old) (D.view disk.new) }
-    ensures only_reads { before_reads (D.view disk.new).calls ≡ before_reads (D.view disk.old).calls }
-    ensures fault { IsErrOf result DiskFault → HasFailed (D.view disk.old) (D.view disk.new) }
-    ensures sectors { (D.view disk.new).sectors ≡ (D.view disk.old).sectors }
-    ensures later { (D.view disk.old).failures ≤ (D.view disk.new).failures }
+        → kept_of x.0 x.1 ≡ kept_by_header slot.now (D.view disk.old).reads header.now) }
+    ensures reads { ReadsOrFails IsOfDamage (D.view disk.old) (D.view disk.new) result }
 {
     row_read_back();
     let mut loader = Loader::new(alloc, slot.limits)?;
@@ -222,13 +204,8 @@ pub(crate) fn read_rest_base<A: Allocator + Copy, D: Disk>(
     requires fits { slot.now.first + rows_stated slot.now.stated < 2 ^ 64 }
     requires few { rows_stated slot.now.stated ≤ 135232 }
     ensures exact { IfOk result (λ found. (D.view disk.old).honest → IsRow (HeaderRow slot.now.stated)
-        → found ≡ left_in slot.now.limits (D.view disk.old).reads slot.now.first slot.now.stated) }
-    ensures kinds { IfErr result IsOfDamage }
-    ensures only_read { (D.view disk.old).honest → HasOnlyRead (D.view disk.old) (D.view disk.new) }
-    ensures only_reads { before_reads (D.view disk.new).calls ≡ before_reads (D.view disk.old).calls }
-    ensures fault { IsErrOf result DiskFault → HasFailed (D.view disk.old) (D.view disk.new) }
-    ensures sectors { (D.view disk.new).sectors ≡ (D.view disk.old).sectors }
-    ensures later { (D.view disk.old).failures ≤ (D.view disk.new).failures }
+        → found ≡ left_of slot.now (D.view disk.old).reads) }
+    ensures reads { ReadsOrFails IsOfDamage (D.view disk.old) (D.view disk.new) result }
 {
     let mut header = slot.stated;
     for _ in 0..5u32 {

@@ -1,17 +1,16 @@
 // The sides of a disk, and which of them counts.
-ghost use Rattle.std.specs.Prelude.{◌≡◌, ◌⊎◌, ◌<◌, ◌≤◌, ℕ, IfErr, IfOk, IfSome, IsErrOf, option_map};
-ghost use Rattle.sector_disk.specs.Disk.{HasFailed};
-ghost use Rattle.sector_disk.specs.Reading.{before_reads};
-ghost use Rattle.sector_disk.specs.Run.{HasOnlyRead};
+ghost use Rattle.std.specs.Prelude.{◌≡◌, ◌≤◌, ◌++◌, IfErr, IfOk, option_map};
+ghost use Rattle.sector_disk.specs.Run.{HasCalled};
 ghost use Rattle.image_rows.specs.RowReading.{row_in};
 ghost use Rattle.checkpoint.specs.Layout.{disk_size};
 ghost use Rattle.gated_journal.specs.declared.form.Form.{Form};
 ghost use Rattle.checkpoint.specs.declared.side.Side.{Side};
 ghost use Rattle.checkpoint.specs.OnSide.{epoch_of, slot_form};
-ghost use Rattle.recovery.specs.declared.fault.StoreFault.TheVariants.{Damaged, DiskFault};
 ghost use Rattle.recovery.specs.Checking.{greater};
 ghost use Rattle.recovery.specs.Opens.{chosen, side_at, side_in};
-ghost use Rattle.recovery.specs.Opening.{Gives, IsOfDisk};
+ghost use Rattle.recovery.specs.Opening.{Gives, header_reads};
+ghost use Rattle.recovery.specs.Inside.Current.{HasForm};
+ghost use Rattle.recovery.specs.Inside.Reads.{IsOfRoots, IsOfSector, ReadsOrFails};
 
 use crate::StoreFault;
 use checkpoint::{Layout, Side, stated_form};
@@ -52,14 +51,10 @@ pub(crate) fn read_head<D: Disk>(
 ) -> Result<Option<Head>, StoreFault>
     requires room { disk_size layout.now ≤ (D.view disk.old).sectors }
     ensures exact { (D.view disk.old).honest → Gives (option_map (λ head. head.epoch)) result (side_at layout.now side (D.view disk.old).reads) }
-    ensures form { IfOk result (λ found. (D.view disk.old).honest → IfSome found (λ head. head.form ≡ slot_form layout.now side (D.view disk.old).reads)) }
-    ensures kinds { IfErr result IsOfDisk }
-    ensures on_disk { (at : ℕ) → IsErrOf result (Damaged at) → at < (D.view disk.old).sectors }
-    ensures only_read { (D.view disk.old).honest → HasOnlyRead (D.view disk.old) (D.view disk.new) }
-    ensures only_reads { before_reads (D.view disk.new).calls ≡ before_reads (D.view disk.old).calls }
-    ensures fault { IsErrOf result DiskFault → HasFailed (D.view disk.old) (D.view disk.new) }
-    ensures sectors { (D.view disk.new).sectors ≡ (D.view disk.old).sectors }
-    ensures later { (D.view disk.old).failures ≤ (D.view disk.new).failures }
+    ensures form { IfOk result (λ found. (D.view disk.old).honest → HasForm (slot_form layout.now side (D.view disk.old).reads) found) }
+    ensures calls { IfOk result (λ found. (D.view disk.old).honest
+        → HasCalled (D.view disk.old) (D.view disk.new) (header_reads layout.now side (D.view disk.old).reads)) }
+    ensures reads { ReadsOrFails (IsOfSector (D.view disk.old).sectors) (D.view disk.old) (D.view disk.new) result }
 {
     let mut bytes = [0; 512];
     disk.read(layout.root(side), &mut bytes)?;
@@ -103,11 +98,8 @@ pub(crate) fn greater(a: u64, b: u64) -> Option<Side>
 // The side of the greater epoch.
 fn chosen(a: Option<Head>, b: Option<Head>) -> Result<Current, StoreFault>
     ensures value { Gives (λ current. current.side) result (chosen (option_map (λ head. head.epoch) a) (option_map (λ head. head.epoch) b)) }
-    ensures form { (form : Side → Form) → IfSome a (λ head. head.form ≡ form Side.A) → IfSome b (λ head. head.form ≡ form Side.B)
-        → IfOk result (λ current. current.form ≡ form current.side) }
-    ensures kinds { IfErr result IsOfDisk }
-    ensures roots { (at : ℕ) → IsErrOf result (Damaged at) → at < 3 }
-    ensures fault { IsErrOf result DiskFault → ⊥ }
+    ensures form { (form : Side → Form) → HasForm (form Side.A) a → HasForm (form Side.B) b → IfOk result (λ current. current.form ≡ form current.side) }
+    ensures kinds { IfErr result IsOfRoots }
 {
     match (a, b) {
         (None, None) => Err(StoreFault::Damaged(1)),
@@ -126,13 +118,9 @@ pub(crate) fn read_side<D: Disk>(disk: &mut D, layout: &Layout) -> Result<Curren
     requires room { disk_size layout.now ≤ (D.view disk.old).sectors }
     ensures exact { (D.view disk.old).honest → Gives (λ current. current.side) result (side_in layout.now (D.view disk.old).reads) }
     ensures form { IfOk result (λ current. (D.view disk.old).honest → current.form ≡ slot_form layout.now current.side (D.view disk.old).reads) }
-    ensures kinds { IfErr result IsOfDisk }
-    ensures on_disk { (at : ℕ) → IsErrOf result (Damaged at) → at < (D.view disk.old).sectors }
-    ensures only_read { (D.view disk.old).honest → HasOnlyRead (D.view disk.old) (D.view disk.new) }
-    ensures only_reads { before_reads (D.view disk.new).calls ≡ before_reads (D.view disk.old).calls }
-    ensures fault { IsErrOf result DiskFault → HasFailed (D.view disk.old) (D.view disk.new) }
-    ensures sectors { (D.view disk.new).sectors ≡ (D.view disk.old).sectors }
-    ensures later { (D.view disk.old).failures ≤ (D.view disk.new).failures }
+    ensures calls { IfOk result (λ current. (D.view disk.old).honest → HasCalled (D.view disk.old) (D.view disk.new)
+        (header_reads layout.now Side.A (D.view disk.old).reads ++ header_reads layout.now Side.B (D.view disk.old).reads)) }
+    ensures reads { ReadsOrFails (IsOfSector (D.view disk.old).sectors) (D.view disk.old) (D.view disk.new) result }
 {
     let a = read_head(disk, layout, Side::A)?;
     let b = read_head(disk, layout, Side::B)?;

@@ -1,15 +1,13 @@
 //! What the header of a side states, and what is wrong with the records after it.
-ghost use Rattle.std.specs.Prelude.{◌≡◌, ◌<◌, ◌≤◌, IfErr, IfOk, IfSome, IsErrOf, option_map};
-ghost use Rattle.sector_disk.specs.Disk.{HasFailed, sector};
-ghost use Rattle.sector_disk.specs.Reading.{before_reads};
-ghost use Rattle.sector_disk.specs.Run.{HasOnlyRead};
+ghost use Rattle.std.specs.Prelude.{◌≡◌, ◌<◌, ◌≤◌, IfErr, IfOk, IfSome, option_map};
 ghost use Rattle.centre_core.specs.State.{last_number};
-ghost use Rattle.image_rows.specs.RowReading.{row_in};
 ghost use Rattle.image_rows.specs.Loading.{header_may};
-ghost use Rattle.checkpoint.specs.Layout.{disk_size, slot_at};
-ghost use Rattle.checkpoint.specs.OnSide.{ReadsForm, slot_form};
+ghost use Rattle.checkpoint.specs.Layout.{disk_size};
+ghost use Rattle.checkpoint.specs.OnSide.{slot_form};
 ghost use Rattle.recovery.specs.declared.fault.StoreFault.TheVariants.{DiskFault};
-ghost use Rattle.recovery.specs.Damage.{IsOfDamage, bad_record_in, header_of, record_fault, record_kind};
+ghost use Rattle.recovery.specs.Damage.{IsOfDamage, record_fault, record_kind};
+ghost use Rattle.recovery.specs.Inside.Damaged.{IsBadRecord, slot_header};
+ghost use Rattle.recovery.specs.Inside.Reads.{ReadsOrFails};
 
 use crate::row_faults::header_of;
 use crate::{Kind, Reason, StoreFault};
@@ -38,14 +36,10 @@ pub(crate) fn read_header<D: Disk>(
 ) -> Result<Option<Stated>, StoreFault>
     requires room { disk_size layout.now ≤ (D.view disk.old).sectors }
     ensures exact { IfOk result (λ found. (D.view disk.old).honest
-        → option_map (λ stated. stated.header) found ≡ header_of (row_in (sector (D.view disk.old).reads (slot_at layout.now side)))) }
+        → option_map (λ stated. stated.header) found ≡ slot_header layout.now side (D.view disk.old).reads) }
     ensures form { IfOk result (λ found. (D.view disk.old).honest → IfSome found (λ stated. stated.form ≡ slot_form layout.now side (D.view disk.old).reads)) }
-    ensures kinds { IfErr result IsOfDamage }
-    ensures only_read { (D.view disk.old).honest → HasOnlyRead (D.view disk.old) (D.view disk.new) }
-    ensures only_reads { before_reads (D.view disk.new).calls ≡ before_reads (D.view disk.old).calls }
-    ensures fault { IsErrOf result DiskFault → HasFailed (D.view disk.old) (D.view disk.new) }
-    ensures sectors { (D.view disk.new).sectors ≡ (D.view disk.old).sectors }
-    ensures later { (D.view disk.old).failures ≤ (D.view disk.new).failures }
+    ensures device { IfErr result (λ fault. fault ≡ DiskFault) }
+    ensures reads { ReadsOrFails IsOfDamage (D.view disk.old) (D.view disk.new) result }
 {
     let mut bytes = [0; 512];
     disk.read(layout.slot(side), &mut bytes)?;
@@ -79,15 +73,9 @@ pub(crate) fn bad_record<A: Allocator + Copy, D: Disk>(
 ) -> Result<Option<u64>, StoreFault>
     requires room { disk_size layout.now ≤ (D.view disk.old).sectors }
     requires counts { stated.header.count ≤ last_number }
-    ensures exact { IfOk result (λ bad. (D.view disk.old).honest → ReadsForm layout.now side stated.form (D.view disk.old)
-        → bad ≡ bad_record_in A layout.now side stated.header (D.view disk.old).reads) }
+    ensures exact { IfOk result (λ bad. (D.view disk.old).honest → IsBadRecord A layout.now side stated (D.view disk.old) bad) }
     ensures on_disk { IfOk result (λ bad. IfSome bad (λ at. at < (D.view disk.old).sectors)) }
-    ensures kinds { IfErr result IsOfDamage }
-    ensures only_read { (D.view disk.old).honest → HasOnlyRead (D.view disk.old) (D.view disk.new) }
-    ensures only_reads { before_reads (D.view disk.new).calls ≡ before_reads (D.view disk.old).calls }
-    ensures fault { IsErrOf result DiskFault → HasFailed (D.view disk.old) (D.view disk.new) }
-    ensures sectors { (D.view disk.new).sectors ≡ (D.view disk.old).sectors }
-    ensures later { (D.view disk.old).failures ≤ (D.view disk.new).failures }
+    ensures reads { ReadsOrFails IsOfDamage (D.view disk.old) (D.view disk.new) result }
 {
     let mut journal = Journal::start(
         alloc,
@@ -123,12 +111,7 @@ pub(crate) fn read_record_kind<D: Disk>(
 ) -> Result<Kind, StoreFault>
     requires inside { at < (D.view disk.old).sectors }
     ensures exact { IfOk result (λ kind. (D.view disk.old).honest → kind ≡ record_kind layout.now side (D.view disk.old).reads at) }
-    ensures kinds { IfErr result IsOfDamage }
-    ensures only_read { (D.view disk.old).honest → HasOnlyRead (D.view disk.old) (D.view disk.new) }
-    ensures only_reads { before_reads (D.view disk.new).calls ≡ before_reads (D.view disk.old).calls }
-    ensures fault { IsErrOf result DiskFault → HasFailed (D.view disk.old) (D.view disk.new) }
-    ensures sectors { (D.view disk.new).sectors ≡ (D.view disk.old).sectors }
-    ensures later { (D.view disk.old).failures ≤ (D.view disk.new).failures }
+    ensures reads { ReadsOrFails IsOfDamage (D.view disk.old) (D.view disk.new) result }
 {
     let mut bytes = [0; 512];
     disk.read(at, &mut bytes)?;

@@ -379,23 +379,44 @@ fn in_size(
     (heap.used() == 0).then_some(answer)
 }
 
-/// How many heaps were too small for a check; `None` if one didn't get all of its memory back, or if damage was not found.
-fn refused(alloc: Global) -> Option<usize> {
-    let mut disk = disk(alloc, &HALF_DAMAGED)?;
-    for k in 0..800 {
-        match in_size(alloc, 200 + 32 * k, &mut disk) {
-            Some(Ok(checked)) => {
-                let damaged = state(Side::A, Found::Damaged(Some(3), 592));
-                return (checked.a == damaged).then_some(k);
-            }
-            Some(Err(StoreFault::NoMemory)) => {}
-            _ => return None,
+/// What a check finds in a heap of this number, counted from the smallest.
+fn in_numbered(
+    alloc: Global,
+    number: usize,
+    disk: &mut MemoryDisk<Global>,
+) -> Option<Result<Checked, StoreFault>> {
+    let more = usize::saturating_mul(32, number);
+    in_size(alloc, usize::saturating_add(200, more), disk)
+}
+
+/// The first heap, from this one on, in which a check has another answer than this fault.
+fn first_without(
+    alloc: Global,
+    disk: &mut MemoryDisk<Global>,
+    fault: StoreFault,
+    from: usize,
+) -> Option<usize> {
+    for number in from..800 {
+        let answer = in_numbered(alloc, number, disk)?;
+        if answer.err() != Some(fault) {
+            return Some(number);
         }
     }
     None
 }
 
+/// How many heaps were too small to find the damage to side A, and how many to read both sides. In those between, the damage is reported.
+/// `None` if a heap didn't get all of its memory back, or if damage was not found.
+fn refused(alloc: Global) -> Option<(usize, usize)> {
+    let mut disk = disk(alloc, &HALF_DAMAGED)?;
+    let one = first_without(alloc, &mut disk, StoreFault::NoMemory, 0)?;
+    let both = first_without(alloc, &mut disk, StoreFault::Damaged(592), one)?;
+    let checked = in_numbered(alloc, both, &mut disk)?.ok()?;
+    let damaged = state(Side::A, Found::Damaged(Some(3), 592));
+    (checked.a == damaged).then_some((one, both))
+}
+
 #[test]
 fn each_growth_of_a_check_is_refused_in_turn(rt: HostRuntime) {
-    assert!(rt; refused(rt.alloc()).is_some_and(|heaps| heaps > 500));
+    assert!(rt; refused(rt.alloc()).is_some_and(|(one, both)| 0 < one && one < both && both > 500));
 }

@@ -1,7 +1,8 @@
 -- The line of a row is read as that row.
-use Rattle.std.proofs.Common.{◌≡◌, ℕ, ◌+◌, ◌*◌, ◌/◌, ◌<◌, ◌≤◌, ◌^◌, Bool, true, false, List, [], ◌∷◌, ◌++◌, length, refl, sym, ◌∙◌, ap, arith, Option, Some, None, nat_le}
-use Rattle.std.specs.Prelude.{IfSome, codes, decimal, cond}
+use Rattle.std.proofs.Common.{◌≡◌, ℕ, zero, suc, ◌+◌, ◌*◌, ◌<◌, ◌≤◌, ◌^◌, Bool, true, false, List, [], ◌∷◌, length, refl, sym, ◌∙◌, ap, arith, Option, Some, None, nat_le}
+use Rattle.std.specs.Prelude.{IfSome, codes, decimal, cond, option_map}
 use Rattle.std.specs.List.{All, flat_map}
+use Rattle.std.specs.Option.{option_and_then}
 use Rattle.std.specs.Result.{result_ok}
 use Rattle.std.specs.Str.{bytes_eq}
 use Rattle.std.proofs.lemmas.List.Elements.{All-head, All-tail}
@@ -13,7 +14,9 @@ use Rattle.identity.specs.BitsText.{bits_form, bits_text as bits_word, reading_b
 use Rattle.identity.proofs.Texts.{reading_number_again}
 use Rattle.identity.proofs.IdentityTexts.{reading_identity_again, reading_prefix_again}
 use Rattle.identity.proofs.BitsTexts.{bits_printed, reading_bits_again}
-use Rattle.mm_pdus.specs.Values.{lifetime_number}
+use Rattle.mm_pdus.specs.declared.lifetime.Lifetime.{Lifetime}
+use Rattle.mm_pdus.specs.Values.{lifetime_of, lifetime_number}
+use Rattle.mm_pdus.proofs.ValueLaws.{lifetime_of-lifetime_number}
 use Rattle.registration.specs.declared.rule.Rule.{Rule}
 use Rattle.registration.specs.declared.radio.Radio.{Radio}
 use Rattle.mailbox.specs.declared.key.Key.{Key}
@@ -22,17 +25,17 @@ use Rattle.mailbox.specs.declared.key.Kind.TheVariants.{Message, Report}
 use Rattle.mailbox.specs.Values.{Item, KeyInRange}
 use Rattle.centre_core.specs.StateRanges.{IsReply}
 use Rattle.centre_core.specs.State.{LastAccepted}
-use Rattle.command_bytes.specs.Fields.{◌>>=◌, big}
-use Rattle.command_bytes.specs.Text.{prefix_text, key_text, bits_text}
-use Rattle.listings.specs.Words.{pdu_text}
-use Rattle.console.specs.Reading.{words, identity_in, prefix_in, pdu_in, reference_in, kind_in, key_of, key_in}
-use Rattle.listings.specs.Words.{kind_word}
+use Rattle.command_bytes.specs.Fields.{◌>>=◌}
+use Rattle.listings.specs.Words.{kind_word, pdu_text}
+use Rattle.console.specs.Reading.{words, area_in, identity_in, lifetime_in, prefix_in, pdu_in, reference_in, rule_in, rule_of, sequence_in, kind_in, key_of, key_in, not_zero}
 use Rattle.image_rows.specs.Rows.{Row, HeaderRow, RuleRow, RadioRow, MailRow, ServedRow, Header, Group, GroupInRange}
-use Rattle.image_rows.specs.RowText.{copied_text, group_text, mail_tag, padded, present_number, reply_bits, row_bytes, sector_of}
+use Rattle.image_rows.specs.RowText.{row_bytes, sector_of}
 use Rattle.image_rows.specs.RowReading.{IsRow, row_in}
 use Rattle.image_rows.proofs.Settled.{written_is_read}
 use Rattle.register_text.specs.Lines.{copied_words, fields, group_words, keyword, presence_word, row_line, IsLineRow}
-use Rattle.register_text.specs.Reading.{copied_in, group_in, group_of, groups_in, header_in, header_of, if_spelt, item_in, item_of, last_in, last_of, line_row, number_in, place_of, presence_in, radio_in, radio_of, reply_in, rule_in, rule_of, sector_in}
+use Rattle.register_text.specs.Reading.{copied_in, group_in, group_of, groups_in, header_in, header_of, if_spelt, item_in, item_of, last_in, last_of}
+use Rattle.register_text.specs.Reading.{line_row, number_in, place_in, place_of, presence_in, radio_in, radio_of, reply_in, row_given, rule_row_in}
+use Rattle.register_text.specs.Reading.{sector_in}
 use Rattle.register_text.proofs.Spaces.{lifetime_small, words_of}
 
 -- ---- one word
@@ -53,7 +56,7 @@ kind_again : (kind : Kind) → kind_in (kind_word kind) ≡ Some kind
 kind_again Message = refl
 kind_again Report = refl
 
-presence_again : (present : Bool) → presence_in (presence_word present) ≡ present_number present
+presence_again : (present : Bool) → presence_in (presence_word present) ≡ Some present
 presence_again true = refl
 presence_again false = refl
 
@@ -74,113 +77,126 @@ key_again key range =
     key_same key (identity_in (identity_text key.destination)) (identity_in (identity_text key.source)) (reference_in (decimal key.reference)) (kind_in (kind_word key.kind))
     (identity_again key.destination range.0) (identity_again key.source range.1) (number_again 255 key.reference (omega (arith, reference)) (omega arith)) (kind_again key.kind)
 
+lifetime_again : (life : Lifetime) → lifetime_in (decimal (lifetime_number life)) ≡ Some life
+lifetime_again life =
+    let small = lifetime_small life in
+    ap (option_and_then lifetime_of) (number_again 3 (lifetime_number life) (omega (arith, small)) (omega arith)) ∙ lifetime_of-lifetime_number life
+
+sequence_again : (n : ℕ) → 0 < n → n < 2 ^ 32 → sequence_in (decimal n) ≡ Some n
+sequence_again zero above below = absurd (omega (arith, above))
+sequence_again (suc n) above below = ap (option_and_then not_zero) (number_again 4294967295 (suc n) (omega (arith, below)) (omega arith))
+
 -- - is not the word of bits
 dash_is_none : pdu_in (codes "-") ≡ None
 unfolding reading_bits bits_form cut
 dash_is_none = refl
 
-reply_by : (b : Bool) (bits : List Bool) → (b ≡ true → bits_word bits ≡ codes "-") → pdu_in (bits_word bits) ≡ Some bits → cond b (Some []) (pdu_in (bits_word bits)) ≡ Some bits
-reply_by false bits dash e = e
+reply_by : (b : Bool) (bits : List Bool) → (b ≡ true → bits_word bits ≡ codes "-") → pdu_in (bits_word bits) ≡ Some bits →
+    cond b (Some None) (option_map Some (pdu_in (bits_word bits))) ≡ Some (Some bits)
+reply_by false bits dash e = ap (option_map Some) e
 reply_by true bits dash e =
     let none : Some bits ≡ None = sym e ∙ ap pdu_in (dash refl) ∙ dash_is_none in
     absurd cc
 
-reply_again : (pdu : Option (List Bool)) → IsReply pdu → reply_in (pdu_text pdu) ≡ Some (reply_bits pdu)
+reply_again : (pdu : Option (List Bool)) → IsReply pdu → reply_in (pdu_text pdu) ≡ Some pdu
 reply_again None fits = refl
 reply_again (Some bits) fits = reply_by (bytes_eq (bits_word bits) (codes "-")) bits (λ e. (bytes_eq-Decides (bits_word bits) (codes "-")).0 e) (pdu_again bits fits.1)
 
 -- ---- each kind of row
 
 header_same : (c r p m s : ℕ) (c' r' p' m' s' : Option ℕ) → c' ≡ Some c → r' ≡ Some r → p' ≡ Some p → m' ≡ Some m → s' ≡ Some s →
-    header_of c' r' p' m' s' ≡ Some (sector_of (HeaderRow (record { epoch = 1; count = c; rules = r; radios = p; mail = m; served = s })))
+    header_of c' r' p' m' s' ≡ Some (HeaderRow (record { epoch = 1; count = c; rules = r; radios = p; mail = m; served = s }))
 header_same c r p m s c' r' p' m' s' ec er ep em es = rw (ec, er, ep, em, es) refl
 
-pub header_back : (h : Header) → IsRow (HeaderRow h) → header_in (fields (HeaderRow h)) ≡ Some (sector_of (HeaderRow (record h { epoch = 1 })))
+pub header_back : (h : Header) → IsRow (HeaderRow h) → header_in (fields (HeaderRow h)) ≡ Some (HeaderRow (record h { epoch = 1 }))
 header_back h is =
     let r = is.range in let c = r.count in let a = r.rules in let b = r.radios in let m = r.mail in let s = r.served in
     header_same h.count h.rules h.radios h.mail h.served _ _ _ _ _ (number_again _ h.count (omega (arith, c)) (omega arith)) (number_again _ h.rules (omega (arith, a)) (omega arith))
     (number_again _ h.radios (omega (arith, b)) (omega arith)) (number_again _ h.mail (omega (arith, m)) (omega arith)) (number_again _ h.served (omega (arith, s)) (omega arith))
 
-rule_same : (p : Path) (l h t k : ℕ) (p' : Option Path) (l' h' t' k' : Option ℕ) → p' ≡ Some p → l' ≡ Some l → h' ≡ Some h → t' ≡ Some t → k' ≡ Some k →
-    rule_of p' l' h' t' k' ≡ Some (padded (big 1 17 ++ (prefix_text p ++ (big 2 l ++ big 2 h ++ big 1 t ++ big 4 k))))
-rule_same p l h t k p' l' h' t' k' ep el eh et ek = rw (ep, el, eh, et, ek) refl
+in_order : (low high : ℕ) (r : Rule) → low ≤ high → cond (nat_le low high) (Some r) None ≡ Some r
+in_order low high r le =
+    let same : nat_le low high ≡ true = grind (arith, le) in
+    rw same refl
 
-rule_back : (prefix : Path) (rule : Rule) → IsRow (RuleRow prefix rule) → rule_in (fields (RuleRow prefix rule)) ≡ Some (sector_of (RuleRow prefix rule))
-unfolding sector_of row_bytes
+rule_same : (rule : Rule) (l h k : Option ℕ) (t : Option Lifetime) → l ≡ Some rule.low → h ≡ Some rule.high → t ≡ Some rule.lifetime →
+    k ≡ Some rule.keep → rule.low ≤ rule.high → rule_of l h t k ≡ Some rule
+rule_same rule l h k t el eh et ek le = rw (el, eh, et, ek) (in_order rule.low rule.high rule le)
+
+rule_back : (prefix : Path) (rule : Rule) → IsRow (RuleRow prefix rule) → rule_row_in (fields (RuleRow prefix rule)) ≡ Some (RuleRow prefix rule)
 rule_back prefix rule is =
-    let r = is.range in let low = r.1.0 in let high = r.1.1 in let keep = r.1.2 in let life = lifetime_small rule.lifetime in
-    rule_same prefix rule.low rule.high (lifetime_number rule.lifetime) rule.keep _ _ _ _ _ (prefix_again prefix r.0) (number_again _ rule.low (omega (arith, low, high)) (omega arith))
-    (number_again _ rule.high (omega (arith, high)) (omega arith)) (number_again _ (lifetime_number rule.lifetime) (omega (arith, life)) (omega arith)) (number_again _ rule.keep (omega (arith, keep)) (omega arith))
+    let r = is.range in let low = r.1.0 in let high = r.1.1 in let keep = r.1.2 in
+    let is_rule : rule_in (decimal rule.low) (decimal rule.high) (decimal (lifetime_number rule.lifetime)) (decimal rule.keep) ≡ Some rule =
+    rule_same rule _ _ _ _ (number_again 16383 rule.low (omega (arith, low, high)) (omega arith)) (number_again 16383 rule.high (omega (arith, high)) (omega arith))
+    (lifetime_again rule.lifetime) (number_again 4294967295 rule.keep (omega (arith, keep)) (omega arith)) low in
+    rw (prefix_again prefix r.0, is_rule) refl
 
-group_same : (g c l : ℕ) (g' c' l' : Option ℕ) → g' ≡ Some g → c' ≡ Some c → l' ≡ Some l → group_of g' c' l' ≡ Some (big 6 g ++ big 1 (4 * c + l))
-group_same g c l g' c' l' eg ec el = rw (eg, ec, el) refl
+group_same : (g : Group) (n c : Option ℕ) (l : Option Lifetime) → n ≡ Some g.0 → c ≡ Some g.1.0 → l ≡ Some g.1.1 → group_of n c l ≡ Some g
+group_same g n c l en ec el = rw (en, ec, el) refl
 
-group_back : (g : Group) → GroupInRange g → group_in (identity_text g.0) (decimal g.1.0) (decimal (lifetime_number g.1.1)) ≡ Some (group_text g)
+group_back : (g : Group) → GroupInRange g → group_in (identity_text g.0) (decimal g.1.0) (decimal (lifetime_number g.1.1)) ≡ Some g
 group_back g fits =
     let class = fits.1 in
-    group_same g.0 g.1.0 (lifetime_number g.1.1) _ _ _ (identity_again g.0 fits.0) (number_again 7 g.1.0 (omega (arith, class)) (omega arith)) (number_again 3 (lifetime_number g.1.1) (lifetime_small g.1.1) (omega arith))
+    group_same g _ _ _ (identity_again g.0 fits.0) (number_again 7 g.1.0 (omega (arith, class)) (omega arith)) (lifetime_again g.1.1)
 
-more_groups : (group groups : List ℕ) (group' groups' : Option (List ℕ)) → group' ≡ Some group → groups' ≡ Some groups → (group' >>= λ g. groups' >>= λ gs. Some (g ++ gs)) ≡ Some (group ++ groups)
-more_groups group groups group' groups' e f = rw (e, f) refl
+more_groups : (g : Group) (gs : List Group) (group : Option Group) (groups : Option (List Group)) → group ≡ Some g → groups ≡ Some gs → (group >>= λ g. groups >>= λ gs. Some (g ∷ gs)) ≡ Some (g ∷ gs)
+more_groups g gs group groups e f = rw (e, f) refl
 
-groups_back : (groups : List Group) → All GroupInRange groups → groups_in (flat_map group_words groups) ≡ Some (flat_map group_text groups)
+groups_back : (groups : List Group) → All GroupInRange groups → groups_in (flat_map group_words groups) ≡ Some groups
 groups_back [] fit = refl
-groups_back (g ∷ groups) fit = more_groups (group_text g) (flat_map group_text groups) _ _ (group_back g (All-head GroupInRange g groups fit)) (groups_back groups (All-tail GroupInRange g groups fit))
+groups_back (g ∷ groups) fit = more_groups g groups _ _ (group_back g (All-head GroupInRange g groups fit)) (groups_back groups (All-tail GroupInRange g groups fit))
 
 pub three_words : (groups : List Group) → length (flat_map group_words groups) ≡ 3 * length groups
 three_words [] = refl
 three_words (g ∷ groups) = let rest = three_words groups in omega (arith, rest)
 
-place_same : (i s a n : ℕ) (i' s' a' : Option ℕ) → i' ≡ Some i → s' ≡ Some s → a' ≡ Some a → place_of i' s' a' n ≡ Some (big 6 i ++ big 2 s ++ big 2 a ++ big 1 n)
-place_same i s a n i' s' a' ei es ea = rw (ei, es, ea) refl
+place_same : (radio : Radio) (s a : Option ℕ) (p : Option Bool) → s ≡ Some radio.station → a ≡ Some radio.area → p ≡ Some radio.present → place_of s a p ≡ Some radio
+place_same radio s a p es ea ep = rw (es, ea, ep) refl
 
-radio_same : (place groups : List ℕ) (words : List (List ℕ)) (n : ℕ) (place' : Option (List ℕ)) → nat_le (length words) 96 ≡ true → length words / 3 ≡ n → place' ≡ Some place → groups_in words ≡ Some groups →
-    radio_of place' words ≡ Some (padded (big 1 18 ++ (place ++ big 1 n ++ groups)))
-radio_same place groups words n place' few count ep eg = rw (few, ep, eg, count) refl
+radio_same : (itsi : ℕ) (radio : Radio) (groups : List Group) (few : Bool) (n : Option ℕ) (r : Option Radio) (gs : Option (List Group)) → few ≡ true →
+    n ≡ Some itsi → r ≡ Some radio → gs ≡ Some groups →
+    cond few (radio_of n r gs) None ≡ Some (RadioRow itsi radio groups)
+radio_same itsi radio groups few n r gs is en er eg = rw (is, en, er, eg) refl
 
-radio_back : (itsi : ℕ) (radio : Radio) (groups : List Group) → IsRow (RadioRow itsi radio groups) → length groups ≤ 32 → radio_in (fields (RadioRow itsi radio groups)) ≡ Some (sector_of (RadioRow itsi radio groups))
-unfolding sector_of row_bytes
+radio_back : (itsi : ℕ) (radio : Radio) (groups : List Group) → IsRow (RadioRow itsi radio groups) → length groups ≤ 32 →
+    radio_in (fields (RadioRow itsi radio groups)) ≡ Some (RadioRow itsi radio groups)
 radio_back itsi radio groups is few =
-    let r = is.range in let station = r.station in let area = r.area in
-    let three = three_words groups in
-    let n = present_number radio.present in
-    let place = big 6 itsi ++ big 2 radio.station ++ big 2 radio.area ++ big 1 n in
+    let r = is.range in let station = r.station in let area = r.area in let three = three_words groups in
     let short : nat_le (length (flat_map group_words groups)) 96 ≡ true = grind (arith, three, few) in
-    let count : length (flat_map group_words groups) / 3 ≡ length groups = omega (arith, three) in
-    let at_place : place_of (identity_in (identity_text itsi)) (number_in 65535 (decimal radio.station)) (number_in 65535 (decimal radio.area)) (presence_in (presence_word radio.present)) ≡ Some place =
-    ap (λ (m : ℕ). place_of (identity_in (identity_text itsi)) (number_in 65535 (decimal radio.station)) (number_in 65535 (decimal radio.area)) m) (presence_again radio.present)
-    ∙ place_same itsi radio.station radio.area n _ _ _ (identity_again itsi r.number) (number_again 65535 radio.station (omega (arith, station)) (omega arith)) (number_again 65535 radio.area (omega (arith, area)) (omega arith)) in
-    radio_same place (flat_map group_text groups) (flat_map group_words groups) (length groups) _ short count at_place (groups_back groups r.each_group)
+    let place : place_in (decimal radio.station) (decimal radio.area) (presence_word radio.present) ≡ Some radio =
+    place_same radio _ _ _ (number_again 65535 radio.station (omega (arith, station)) (omega arith))
+    (number_again 16383 radio.area (omega (arith, area)) (omega arith)) (presence_again radio.present) in
+    radio_same itsi radio groups _ _ _ _ short (identity_again itsi r.number) place (groups_back groups r.each_group)
 
-item_same : (n d : ℕ) (k : Key) (g : Option ℕ) (p : List Bool) (n' : Option ℕ) (k' : Option Key) (d' : Option ℕ) (g' : Option (Option ℕ)) (p' : Option (List Bool)) →
-    n' ≡ Some n → k' ≡ Some k → d' ≡ Some d → g' ≡ Some g → p' ≡ Some p →
-    item_of n' k' d' g' p' ≡ Some (padded (big 1 (mail_tag g) ++ (big 8 n ++ big 8 d ++ key_text k ++ copied_text g ++ bits_text p)))
-item_same n d k g p n' k' d' g' p' en ek ed eg ep = rw (en, ek, ed, eg, ep) refl
+item_same : (w : Item) (n : Option ℕ) (k : Option Key) (d : Option ℕ) (g : Option (Option ℕ)) (p : Option (List Bool)) →
+    n ≡ Some w.number → k ≡ Some w.key → d ≡ Some w.deadline → g ≡ Some w.group → p ≡ Some w.pdu → item_of n k d g p ≡ Some (MailRow w)
+item_same w n k d g p en ek ed eg ep = rw (en, ek, ed, eg, ep) refl
 
-item_back : (w : Item) → IsRow (MailRow w) → item_in (fields (MailRow w)) ≡ Some (sector_of (MailRow w))
-unfolding sector_of row_bytes
+item_back : (w : Item) → IsRow (MailRow w) → item_in (fields (MailRow w)) ≡ Some (MailRow w)
 item_back w is =
     let r = is.range in let number = r.number in let item = r.item in let deadline = item.deadline in let few = item.pdu in
-    item_same w.number w.deadline w.key w.group w.pdu _ _ _ _ _ (number_again _ w.number (omega (arith, number)) (omega arith)) (key_again w.key item.key)
+    item_same w _ _ _ _ _ (number_again _ w.number (omega (arith, number)) (omega arith)) (key_again w.key item.key)
     (number_again _ w.deadline (omega (arith, deadline)) (omega arith)) (copied_again w.group item.group) (pdu_again w.pdu (omega (arith, few)))
 
-last_same : (s q n : ℕ) (p : List Bool) (s' q' n' : Option ℕ) (p' : Option (List Bool)) → s' ≡ Some s → q' ≡ Some q → n' ≡ Some n → p' ≡ Some p →
-    last_of s' q' n' p' ≡ Some (padded (big 1 20 ++ (big 2 s ++ big 4 q ++ big 8 n ++ bits_text p)))
-last_same s q n p s' q' n' p' es eq en ep = rw (es, eq, en, ep) refl
+last_same : (station : ℕ) (last : LastAccepted) (s q n : Option ℕ) (p : Option (Option (List Bool))) → s ≡ Some station → q ≡ Some last.sequence → n ≡ Some last.number → p ≡ Some last.pdu →
+    last_of s q n p ≡ Some (ServedRow station last)
+last_same station last s q n p es eq en ep = rw (es, eq, en, ep) refl
 
-last_back : (station : ℕ) (last : LastAccepted) → IsRow (ServedRow station last) → last_in (fields (ServedRow station last)) ≡ Some (sector_of (ServedRow station last))
-unfolding sector_of row_bytes
+last_back : (station : ℕ) (last : LastAccepted) → IsRow (ServedRow station last) → last_in (fields (ServedRow station last)) ≡ Some (ServedRow station last)
 last_back station last is =
-    let r = is.range in let place = r.place in let sequence = r.kept.sequence in let number = r.number in
-    last_same station last.sequence last.number (reply_bits last.pdu) _ _ _ _ (number_again _ station (omega (arith, place)) (omega arith)) (number_again _ last.sequence (omega (arith, sequence)) (omega arith))
+    let r = is.range in let place = r.place in let number = r.number in
+    last_same station last _ _ _ _ (number_again 65535 station (omega (arith, place)) (omega arith)) (sequence_again last.sequence r.kept.above r.kept.sequence)
     (number_again _ last.number (omega (arith, number)) (omega arith)) (reply_again last.pdu r.kept.pdu)
 
+given_back : (row : Row) → IsLineRow row → row_given (keyword row ∷ fields row) ≡ Some row
+given_back (HeaderRow h) is = header_back h is.is_row ∙ ap (λ (n : ℕ). Some (HeaderRow (record h { epoch = n }))) (sym is.first)
+given_back (RuleRow prefix rule) is = rule_back prefix rule is.is_row
+given_back (RadioRow itsi radio groups) is = radio_back itsi radio groups is.is_row is.few
+given_back (MailRow w) is = item_back w is.is_row
+given_back (ServedRow station last) is = last_back station last is.is_row
+
 pub sector_back : (row : Row) → IsLineRow row → sector_in (keyword row ∷ fields row) ≡ Some (sector_of row)
-sector_back (HeaderRow h) is = header_back h is.is_row ∙ ap (λ (n : ℕ). Some (sector_of (HeaderRow (record h { epoch = n })))) (sym is.first)
-sector_back (RuleRow prefix rule) is = rule_back prefix rule is.is_row
-sector_back (RadioRow itsi radio groups) is = radio_back itsi radio groups is.is_row is.few
-sector_back (MailRow w) is = item_back w is.is_row
-sector_back (ServedRow station last) is = last_back station last is.is_row
+sector_back row is = ap (option_map sector_of) (given_back row is)
 
 -- ---- the whole
 

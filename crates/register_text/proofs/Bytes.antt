@@ -12,7 +12,8 @@ use Rattle.console.proofs.Splits.{is_feed}
 use Rattle.image_rows.specs.Loading.{Loading, begun, row_taken, state_of_rows}
 use Rattle.image_rows.specs.Rows.{Row, rows_of}
 use Rattle.register_text.specs.Lines.{row_line, IsLineRow}
-use Rattle.register_text.specs.Text.{TextLoading, IsUnder, head_line, head_taken, line_taken, lines_taken, or_place, or_spelling, register_lines, state_of, text_begun, text_finished, then_lines, whole}
+use Rattle.register_text.specs.Text.{TextLoading, IsUnder, head_line, head_taken, line_taken, lines_taken, or_place, or_spelling, register_lines}
+use Rattle.register_text.specs.Text.{state_of, text_begun, text_finished, then_lines, whole}
 use Rattle.register_text.specs.Dump.{HasNoFeed, IsTextOf, cut_or_long, end_read, ended, long_cause, longest_line, or_cut, parts_read, register_bytes, text_from, text_read, then_line}
 use Rattle.register_text.specs.declared.cause.Cause.{Cause}
 use Rattle.register_text.specs.declared.cause.Cause.TheVariants as cause
@@ -36,7 +37,8 @@ finished_is n (Some t) s e = let same : t ≡ s = cc in ap Some same
 -- ---- lines that line feeds end
 
 -- the first line and its line feed
-pub ended_line : (n : ℕ) (t : TextLoading) (line : List ℕ) (lines : List (List ℕ)) → HasNoFeed line → text_from n t (ended (line ∷ lines)) ≡ then_line n (line_taken t line) (λ u. text_from (n + 1) u (ended lines))
+pub ended_line : (n : ℕ) (t : TextLoading) (line : List ℕ) (lines : List (List ℕ)) → HasNoFeed line →
+    text_from n t (ended (line ∷ lines)) ≡ then_line n (line_taken t line) (λ u. text_from (n + 1) u (ended lines))
 ended_line n t line lines none = ap (text_from n t) (append_assoc line (10 ∷ []) (ended lines)) ∙ line_step n t line (ended lines) none
 
 no_bytes : (n : ℕ) (t : TextLoading) → text_from n t [] ≡ or_cut n (text_finished t)
@@ -170,7 +172,8 @@ end_only n t (b ∷ part) s e = by (nat_le (length (b ∷ part)) longest_line) e
     by false e = no_result (fault.Line n (long_cause t.headed)) s e
 
 then_only : (n : ℕ) (t : TextLoading) (line next : List ℕ) (parts : List (List ℕ)) (s : State) (r : Result TextLoading Cause) → line_taken t line ≡ r
-    → ((u : TextLoading) → parts_read (n + 1) u (next ∷ parts) ≡ Ok s → AreRead (n + 1) u (next ∷ parts) s) → then_line n r (λ u. parts_read (n + 1) u (next ∷ parts)) ≡ Ok s → AreRead n t (line ∷ next ∷ parts) s
+    → ((u : TextLoading) → parts_read (n + 1) u (next ∷ parts) ≡ Ok s → AreRead (n + 1) u (next ∷ parts) s) →
+    then_line n r (λ u. parts_read (n + 1) u (next ∷ parts)) ≡ Ok s → AreRead n t (line ∷ next ∷ parts) s
 then_only n t line next parts s (Err cause) is later e = no_result (fault.Line n cause) s e
 then_only n t line next parts s (Ok u) is later e =
     let rest = later u e in

@@ -1,12 +1,11 @@
 -- A line that states how many lines follow.
-use Rattle.std.proofs.Common.{◌≡◌, ℕ, ◌-◌, ◌<◌, Bool, true, false, cond, List, ◌++◌, length, take, drop, Option, Some, None, Result, Ok, Err, refl, sym, ap, ◌∙◌, arith, length-take, length-drop, take_all}
+use Rattle.std.proofs.Common.{◌≡◌, ℕ, ◌-◌, ◌<◌, Bool, true, false, cond, List, ◌++◌, length, take, drop, Option, Some, None, refl, sym, ap, ◌∙◌, arith, length-take, length-drop, take_all}
 use Rattle.std.proofs.lemmas.List.{take-append-drop}
 use Rattle.std.specs.Prelude.{codes, decimal}
 use Rattle.std.specs.Str.{bytes_eq}
-use Rattle.std.specs.Result.{result_ok}
 use Rattle.std.proofs.lemmas.Slice.Eq.{bytes_eq-Decides}
+use Rattle.base.proofs.Results.{ok_of_some}
 use Rattle.identity.proofs.Texts.{reading_number_only}
-use Rattle.command_bytes.proofs.Steps.{some_is}
 use Rattle.register_text.specs.Reading.{most_8, number_in}
 use Rattle.register_text.specs.Text.{count_in, count_of}
 
@@ -30,14 +29,10 @@ count_read line count e =
 
 -- ---- which lines state a number
 
-ok_of : {E : Type 0} (r : Result ℕ E) (n : ℕ) → result_ok r ≡ Some n → r ≡ Ok n
-ok_of (Ok x) n e = ap Ok (some_is x n e)
-ok_of (Err f) n e = absurd cc
-
 by_word : (line : List ℕ) (n : ℕ) (b : Bool) → bytes_eq (take 5 line) (codes "dump ") ≡ b → cond b (number_in most_8 (drop 5 line)) None ≡ Some n → line ≡ codes "dump " ++ decimal n
 by_word line n true is e =
     let word : take 5 line ≡ codes "dump " = (bytes_eq-Decides (take 5 line) (codes "dump ")).0 is in
-    let only = reading_number_only most_8 n (drop 5 line) (omega arith) (ok_of _ n e) in
+    let only = reading_number_only most_8 n (drop 5 line) (omega arith) (ok_of_some _ n e) in
     sym (take-append-drop 5 line) ∙ (λ i. word i ++ only.1 i)
 by_word line n false is e = absurd cc
 

@@ -1,14 +1,16 @@
 -- Each row that is taken is one more of those that the header states.
 use Rattle.std.proofs.Common.{◌≡◌, ℕ, zero, suc, ◌+◌, ◌-◌, ◌<◌, ◌≤◌, Bool, true, false, List, [], ◌∷◌, ◌++◌, length, drop, Some, None, sym, ap, subst, ◌∙◌, arith}
-use Rattle.std.specs.Prelude.{◌&&◌, ◌==◌, not, nat_lt, nat_le, slice_set}
+use Rattle.std.specs.Prelude.{◌&&◌, not, nat_lt, nat_le, slice_set}
 use Rattle.std.specs.declared.cmp.Ordering.{Ordering}
 use Rattle.std.specs.Cmp.{IsTotalOrder}
 use Rattle.std.specs.FinMap as map
 use Rattle.std.proofs.lemmas.Bool.{ltb-true, leb-true, eqb-true, lt-ltb}
 use Rattle.std.proofs.lemmas.List.{length-append}
+use Rattle.base.proofs.Bools.{first_true, second_true, and_is_true}
+use Rattle.base.proofs.Numbers.{test_by_same}
+use Rattle.base.proofs.Options.{some_where}
 use Rattle.identity.specs.Path.{Path, id_path, path_cmp}
 use Rattle.identity.specs.Inside.PathLaws.{paths_total}
-use Rattle.identity.proofs.NumberText.{and_left as left, and_right as right}
 use Rattle.registration.specs.declared.limits.Limits.{Limits}
 use Rattle.registration.specs.declared.rule.Rule.{Rule}
 use Rattle.registration.specs.declared.radio.Radio.{Radio}
@@ -16,8 +18,7 @@ use Rattle.mailbox.specs.Values.{Item}
 use Rattle.centre_core.specs.State.{State, LastAccepted, empty}
 use Rattle.image_rows.specs.Rows.{Row, HeaderRow, RuleRow, RadioRow, MailRow, ServedRow, Header, Group, how_many, row_count}
 use Rattle.image_rows.specs.Loading.{all_done, are_free, is_next, mail_may, mail_done, put, radio_may, radios_done, rule_may, rules_done, served_may, taken_mail, taken_radio, taken_rule, taken_served}
-use Rattle.image_rows.proofs.Order.{both, entries_next, same_number}
-use Rattle.image_rows.proofs.Only.{chosen}
+use Rattle.image_rows.proofs.Order.{entries_next}
 use Rattle.image_rows.proofs.Stations.{Entries, how_many-cons, none_in_blanks}
 
 -- how many rows of a state there are without its header
@@ -53,52 +54,53 @@ IsOneMore h s n = IsWithin h n × (filled n ≡ filled s + 1)
 rule_counted : (h : Header) (s : State) (prefix : Path) (rule : Rule) → IsWithin h s → rule_may h s prefix ≡ true → IsOneMore h s (taken_rule s prefix rule)
 rule_counted h s prefix rule is may =
     let old = s.registered.rules in
-    let less : map.len old < h.rules = ltb-true _ _ (left _ _ may) in
-    let more : map.len (map.insert old prefix rule) ≡ map.len old + 1 = len_more paths_total old prefix rule (right (nat_lt (map.len old) h.rules) _ may) in
+    let less : map.len old < h.rules = ltb-true _ _ (first_true _ _ may) in
+    let more : map.len (map.insert old prefix rule) ≡ map.len old + 1 = len_more paths_total old prefix rule (second_true (nat_lt (map.len old) h.rules) _ may) in
     (record { rules = omega (arith, less, more); radios = is.radios; mail = is.mail; served = is.served }, omega (arith, more))
 
 radio_counted : (h : Header) (s : State) (itsi : ℕ) (radio : Radio) (gs : List Group) → IsWithin h s → radio_may h s itsi radio gs ≡ true → IsOneMore h s (taken_radio s itsi radio gs)
 radio_counted h s itsi radio gs is may =
     let old = s.registered.radios in
-    let three = left _ _ (left _ _ (left _ _ (left _ _ may))) in
-    let less : map.len old < h.radios = ltb-true _ _ (right (rules_done h s) _ (left _ _ three)) in
-    let more : map.len (map.insert old (id_path itsi) radio) ≡ map.len old + 1 = len_more paths_total old (id_path itsi) radio (right (rules_done h s && nat_lt (map.len old) h.radios) _ three) in
+    let three = first_true _ _ (first_true _ _ (first_true _ _ (first_true _ _ may))) in
+    let less : map.len old < h.radios = ltb-true _ _ (second_true (rules_done h s) _ (first_true _ _ three)) in
+    let more : map.len (map.insert old (id_path itsi) radio) ≡ map.len old + 1 =
+    len_more paths_total old (id_path itsi) radio (second_true (rules_done h s && nat_lt (map.len old) h.radios) _ three) in
     (record { rules = is.rules; radios = omega (arith, less, more); mail = is.mail; served = is.served }, omega (arith, more))
 
 mail_counted : (h : Header) (s : State) (w : Item) → IsWithin h s → mail_may h s w ≡ true → IsOneMore h s (taken_mail s w)
 mail_counted h s w is may =
     let old = s.mail.items in
-    let two = left _ _ (left _ _ (left _ _ (left _ _ (left _ _ may)))) in
-    let less : length old < h.mail = ltb-true _ _ (right (radios_done h s) _ two) in
+    let two = first_true _ _ (first_true _ _ (first_true _ _ (first_true _ _ (first_true _ _ may)))) in
+    let less : length old < h.mail = ltb-true _ _ (second_true (radios_done h s) _ two) in
     let more : length (old ++ w ∷ []) ≡ length old + 1 = length-append old (w ∷ []) in
     (record { rules = is.rules; radios = is.radios; mail = omega (arith, less, more); served = is.served }, omega (arith, more))
 
 served_counted : (h : Header) (s : State) (station : ℕ) (x : LastAccepted) → IsWithin h s → served_may h s station x ≡ true → IsOneMore h s (taken_served s station x)
 served_counted h s station x is may =
-    let five = left _ _ may in
-    let four = left _ _ five in
-    let three = left _ _ four in
-    let two = left _ _ three in
-    let free : are_free (drop (station - 1) s.served) ≡ true = right (mail_done h s && nat_lt (how_many s.served) h.served && nat_lt 0 station && nat_le station (length s.served)) _ five in
-    let within : station ≤ length s.served = leb-true _ _ (right (mail_done h s && nat_lt (how_many s.served) h.served && nat_lt 0 station) _ four) in
-    let some : 0 < station = ltb-true _ _ (right (mail_done h s && nat_lt (how_many s.served) h.served) _ three) in
-    let less : how_many s.served < h.served = ltb-true _ _ (right (mail_done h s) _ two) in
+    let five = first_true _ _ may in
+    let four = first_true _ _ five in
+    let three = first_true _ _ four in
+    let two = first_true _ _ three in
+    let free : are_free (drop (station - 1) s.served) ≡ true = second_true (mail_done h s && nat_lt (how_many s.served) h.served && nat_lt 0 station && nat_le station (length s.served)) _ five in
+    let within : station ≤ length s.served = leb-true _ _ (second_true (mail_done h s && nat_lt (how_many s.served) h.served && nat_lt 0 station) _ four) in
+    let some : 0 < station = ltb-true _ _ (second_true (mail_done h s && nat_lt (how_many s.served) h.served) _ three) in
+    let less : how_many s.served < h.served = ltb-true _ _ (second_true (mail_done h s) _ two) in
     let more : how_many (slice_set s.served (station - 1) (Some x)) ≡ how_many s.served + 1 = one_served s.served (station - 1) x (omega (arith, some, within)) free in
     (record { rules = is.rules; radios = is.radios; mail = is.mail; served = omega (arith, less, more) }, omega (arith, more))
 
 pub put_counted : (h : Header) (s n : State) (row : Row) → IsWithin h s → put h s row ≡ Some n → IsOneMore h s n
 put_counted h s n (HeaderRow again) is e = absurd cc
 put_counted h s n (RuleRow prefix rule) is e =
-    let c = chosen (rule_may h s prefix) (taken_rule s prefix rule) n e in
+    let c = some_where (rule_may h s prefix) (taken_rule s prefix rule) n e in
     subst (IsOneMore h s) c.1 (rule_counted h s prefix rule is c.0)
 put_counted h s n (RadioRow itsi radio gs) is e =
-    let c = chosen (radio_may h s itsi radio gs) (taken_radio s itsi radio gs) n e in
+    let c = some_where (radio_may h s itsi radio gs) (taken_radio s itsi radio gs) n e in
     subst (IsOneMore h s) c.1 (radio_counted h s itsi radio gs is c.0)
 put_counted h s n (MailRow w) is e =
-    let c = chosen (mail_may h s w) (taken_mail s w) n e in
+    let c = some_where (mail_may h s w) (taken_mail s w) n e in
     subst (IsOneMore h s) c.1 (mail_counted h s w is c.0)
 put_counted h s n (ServedRow station x) is e =
-    let c = chosen (served_may h s station x) (taken_served s station x) n e in
+    let c = some_where (served_may h s station x) (taken_served s station x) n e in
     subst (IsOneMore h s) c.1 (served_counted h s station x is c.0)
 
 -- ---- before all rows, and after them
@@ -110,19 +112,16 @@ none_filled limits =
     let c = none_in_blanks limits.stations in
     omega (arith, a, b, c)
 
-same_numbers : (n m : ℕ) → n ≡ m → (n == m) ≡ true
-same_numbers n m e = subst (λ (k : ℕ). (n == k) ≡ true) e (same_number n)
-
 all_equal : (h : Header) (s : State) → map.len s.registered.rules ≡ h.rules → map.len s.registered.radios ≡ h.radios → length s.mail.items ≡ h.mail → how_many s.served ≡ h.served → all_done h s ≡ true
-all_equal h s a b c d = both _ _ (both _ _ (both _ _ (same_numbers _ _ a) (same_numbers _ _ b)) (same_numbers _ _ c)) (same_numbers _ _ d)
+all_equal h s a b c d = and_is_true _ _ (and_is_true _ _ (and_is_true _ _ (test_by_same _ _ a) (test_by_same _ _ b)) (test_by_same _ _ c)) (test_by_same _ _ d)
 
 -- all rows have come exactly if none is due
 pub done_is : (h : Header) (s : State) (due : ℕ) (b : Bool) → IsWithin h s → due + filled s ≡ row_count h - 1 → all_done h s ≡ b → nat_lt 0 due ≡ not b
 done_is h s due true is sum e =
-    let rules : map.len s.registered.rules ≡ h.rules = eqb-true _ _ (left _ _ (left _ _ (left _ _ e))) in
-    let radios : map.len s.registered.radios ≡ h.radios = eqb-true _ _ (right (rules_done h s) _ (left _ _ (left _ _ e))) in
-    let mail : length s.mail.items ≡ h.mail = eqb-true _ _ (right (radios_done h s) _ (left _ _ e)) in
-    let served : how_many s.served ≡ h.served = eqb-true _ _ (right (mail_done h s) _ e) in
+    let rules : map.len s.registered.rules ≡ h.rules = eqb-true _ _ (first_true _ _ (first_true _ _ (first_true _ _ e))) in
+    let radios : map.len s.registered.radios ≡ h.radios = eqb-true _ _ (second_true (rules_done h s) _ (first_true _ _ (first_true _ _ e))) in
+    let mail : length s.mail.items ≡ h.mail = eqb-true _ _ (second_true (radios_done h s) _ (first_true _ _ e)) in
+    let served : how_many s.served ≡ h.served = eqb-true _ _ (second_true (mail_done h s) _ e) in
     let none : due ≡ 0 = omega (arith, rules, radios, mail, served, sum) in
     ap (λ (n : ℕ). nat_lt 0 n) none
 done_is h s zero false is sum e =

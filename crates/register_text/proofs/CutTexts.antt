@@ -1,6 +1,7 @@
 -- A text is refused as cut exactly where it is cut.
 use Rattle.std.proofs.Common.{◌≡◌, ℕ, ◌+◌, ◌-◌, Bool, true, false, cond, List, [], ◌∷◌, length, Option, Some, None, Result, Ok, Err, refl, sym, ap, subst, ◌∙◌, arith}
 use Rattle.std.specs.Prelude.{not, nat_le, nat_lt}
+use Rattle.base.proofs.Options.{some_is, some_where}
 use Rattle.registration.specs.declared.limits.Limits.{Limits}
 use Rattle.centre_core.specs.State.{State, IsState}
 use Rattle.centre_core.specs.StateRanges.{StateInRange}
@@ -8,10 +9,10 @@ use Rattle.console.specs.Reading.{words}
 use Rattle.console.proofs.Splits.{is_feed, split_nonempty}
 use Rattle.image_rows.specs.Rows.{Row, HeaderRow, RuleRow, RadioRow, MailRow, ServedRow, Header, row_count}
 use Rattle.image_rows.specs.Loading.{Loading, all_done, finished, header_may, put, row_taken, take_by}
-use Rattle.image_rows.proofs.Exactly.{bind_some, some_is}
-use Rattle.image_rows.proofs.Only.{chosen}
+use Rattle.image_rows.proofs.Exactly.{bind_some}
 use Rattle.register_text.specs.Reading.{line_row}
-use Rattle.register_text.specs.Text.{TextLoading, count_after, count_in, count_taken, head_in, head_taken, is_as_stated, is_head, is_same, line_taken, line_taken_by, or_place, or_spelling, state_of, stated_taken, text_begun}
+use Rattle.register_text.specs.Text.{TextLoading, count_after, count_in, count_taken, head_in, head_taken, is_as_stated, is_head, is_same, line_taken}
+use Rattle.register_text.specs.Text.{line_taken_by, or_place, or_spelling, state_of, stated_taken, text_begun}
 use Rattle.register_text.specs.Dump.{IsOfPlace, cut_or_long, end_read, longest_line, or_cut, parts_read, register_bytes, text_from, text_read, then_line}
 use Rattle.register_text.specs.Cut.{IsCutAt, are_cut, due_after, is_cut, is_cut_by, is_due, parts_of}
 use Rattle.register_text.specs.declared.cause.Cause.{Cause}
@@ -65,7 +66,7 @@ not_ok c u e = absurd cc
 begin_due : (s : State) (limits : Limits) (h : Header) (n : Loading) → filled s ≡ 0 → cond (header_may limits h) (Some (record { header = Some h; state = record s { count = h.count } })) None ≡ Some n
     → IsDue (Some (row_count h - 1)) n.header n.state
 begin_due s limits h n none e =
-    let c = chosen (header_may limits h) (record { header = Some h; state = record s { count = h.count } }) n e in
+    let c = some_where (header_may limits h) (record { header = Some h; state = record s { count = h.count } }) n e in
     subst (λ (m : Loading). IsDue (Some (row_count h - 1)) m.header m.state) c.1 (within, omega (arith, none))
   where
     within : IsWithin h (record s { count = h.count })
@@ -86,11 +87,13 @@ row_due (Some due) (Some h) s row n is e =
     let sum = is.1 in let one = more.1 in
     subst (λ (m : Loading). IsDue (Some (due - 1)) m.header m.state) (some_is (record { header = Some h; state = b.0 }) n b.2) (more.0, omega (arith, p, q, r, t, sum, one))
 
-row_stands : (due : Option ℕ) (l : Loading) (row : Row) (u : TextLoading) (o : Option Loading) → ((n : Loading) → o ≡ Some n → row_taken l row ≡ Some n) → IsDue due l.header l.state → or_place o ≡ Ok u → Stands (due_after due (Some row)) u
+row_stands : (due : Option ℕ) (l : Loading) (row : Row) (u : TextLoading) (o : Option Loading) →
+    ((n : Loading) → o ≡ Some n → row_taken l row ≡ Some n) → IsDue due l.header l.state → or_place o ≡ Ok u → Stands (due_after due (Some row)) u
 unfolding row_taken
 row_stands due l row u None made is e = not_ok cause.Place u e
 row_stands due l row u (Some n) made is e =
-    subst (Stands (due_after due (Some row))) (is_ok (record { stated = None; headed = true; rows = n }) u e) (record { rows = row_due due l.header l.state row n is (made n refl); none = λ f. absurd cc })
+    subst (Stands (due_after due (Some row))) (is_ok (record { stated = None; headed = true; rows = n }) u e)
+    (record { rows = row_due due l.header l.state row n is (made n refl); none = λ f. absurd cc })
 
 taken_so : (b : Bool) (o : Option Loading) (n : Loading) → cond b o None ≡ Some n → o ≡ Some n
 taken_so true o n e = e
@@ -100,7 +103,8 @@ spelling_stands : (due stated : Option ℕ) (l : Loading) (u : TextLoading) (o :
 spelling_stands due stated l u None is e = not_ok cause.Spelling u e
 spelling_stands due stated l u (Some row) is e = row_stands due l row u (stated_taken stated l row) (λ n made. taken_so (is_as_stated stated row) (row_taken l row) n made) is e
 
-head_stands : (stated : Option ℕ) (l : Loading) (line : List ℕ) (u : TextLoading) (b : Bool) → is_head line ≡ b → IsDue None l.header l.state → head_taken stated l b ≡ Ok u → Stands (due_after None (line_row line)) u
+head_stands : (stated : Option ℕ) (l : Loading) (line : List ℕ) (u : TextLoading) (b : Bool) → is_head line ≡ b → IsDue None l.header l.state →
+    head_taken stated l b ≡ Ok u → Stands (due_after None (line_row line)) u
 head_stands stated l line u false head is e = not_ok cause.Head u e
 head_stands stated l line u true head is e =
     let none = none_due line (line_row line) refl (λ h said. opposite (is_head line) head (count_is_no_head h line said)) in
@@ -113,7 +117,8 @@ stated_by : (stated : Option ℕ) (line : List ℕ) (n : ℕ) → count_after st
 stated_by None line n e = e
 stated_by (Some m) line n e = absurd cc
 
-first_stands : (stated : Option ℕ) (l : Loading) (line : List ℕ) (u : TextLoading) (o : Option ℕ) → count_after stated line ≡ o → IsDue None l.header l.state → count_taken stated l line o ≡ Ok u → Stands (due_after None (line_row line)) u
+first_stands : (stated : Option ℕ) (l : Loading) (line : List ℕ) (u : TextLoading) (o : Option ℕ) → count_after stated line ≡ o →
+    IsDue None l.header l.state → count_taken stated l line o ≡ Ok u → Stands (due_after None (line_row line)) u
 first_stands stated l line u None count is e = head_stands stated l line u (is_head line) refl is e
 first_stands stated l line u (Some n) count is e =
     let none = none_due line (line_row line) refl (λ h said. states_none n (count_in line) (header_states_none h line said) (stated_by stated line n count)) in
@@ -124,7 +129,8 @@ by_headed : (due stated : Option ℕ) (b : Bool) (l : Loading) (line : List ℕ)
 by_headed due stated true l line u is e = spelling_stands due stated l u (line_row line) is.rows e
 by_headed due stated false l line u is e =
     let none : due ≡ None = is.none refl in
-    subst (λ (d : Option ℕ). Stands (due_after d (line_row line)) u) (sym none) (first_stands stated l line u (count_after stated line) refl (subst (λ (d : Option ℕ). IsDue d l.header l.state) none is.rows) e)
+    subst (λ (d : Option ℕ). Stands (due_after d (line_row line)) u) (sym none)
+    (first_stands stated l line u (count_after stated line) refl (subst (λ (d : Option ℕ). IsDue d l.header l.state) none is.rows) e)
 
 line_stands : (due : Option ℕ) (t u : TextLoading) (line : List ℕ) → Stands due t → line_taken t line ≡ Ok u → Stands (due_after due (line_row line)) u
 unfolding line_taken
@@ -165,7 +171,8 @@ then_agrees : (n m : ℕ) (due : Option ℕ) (t : TextLoading) (line next : List
 then_agrees n m due t line next parts (Err cause) made is later = tt
 then_agrees n m due t line next parts (Ok u) made is later = later u (line_stands due t u line is made)
 
-parts_agree : (parts : List (List ℕ)) (first : List ℕ) (n m : ℕ) (t : TextLoading) (due : Option ℕ) → m ≡ n + length parts → Stands due t → Agrees (parts_read n t (first ∷ parts)) m (are_cut due (first ∷ parts))
+parts_agree : (parts : List (List ℕ)) (first : List ℕ) (n m : ℕ) (t : TextLoading) (due : Option ℕ) → m ≡ n + length parts → Stands due t →
+    Agrees (parts_read n t (first ∷ parts)) m (are_cut due (first ∷ parts))
 parts_agree [] first n m t due at is = subst (λ (k : ℕ). Agrees (end_read n t first) k (is_cut_by due first)) (here at) (end_agrees n t due first is)
   where
     here : m ≡ n + 0 → n ≡ m

@@ -5,6 +5,7 @@ use Rattle.std.specs.List.{filter, flat_map}
 use Rattle.std.proofs.lemmas.List.Elements.{All-head}
 use Rattle.std.specs.FinMap as map
 use Rattle.std.proofs.lemmas.List.{append-nil, length-map, map-append}
+use Rattle.base.proofs.Numbers.{same_test}
 use Rattle.identity.specs.Number.{number}
 use Rattle.identity.specs.Path.{Path}
 use Rattle.registration.specs.declared.limits.Limits.{Limits}
@@ -28,7 +29,6 @@ use Rattle.image_rows.specs.Rows.{Row, HeaderRow, RuleRow, MailRow, ServedRow, h
 use Rattle.register_text.specs.Lines.{IsLineRow, copied_words, fields, group_words, presence_word, row_line, spaced}
 use Rattle.image_rows.specs.Loading.{begun, row_taken}
 use Rattle.image_rows.proofs.Counts.{rows_counted, rows_fit}
-use Rattle.image_rows.proofs.Order.{same_number}
 use Rattle.register_text.specs.Reading.{line_row, most_8}
 use Rattle.register_text.specs.Text.{IsUnder, TextLoading, count_in, count_taken, head_line, head_taken, line_count, line_taken, or_place, or_spelling, register_lines, text_begun}
 use Rattle.register_text.specs.Cut.{is_cut}
@@ -90,7 +90,8 @@ rule_parts a b c d e f = simp append_assoc
 
 rule_same : (prefix : Path) (rule : Rule) → entry_line (RuleEntry prefix rule) ≡ line_of (RuleRow prefix rule)
 rule_same prefix rule =
-    rule_parts (prefix_text prefix) (decimal rule.low) (decimal rule.high) (decimal (lifetime_number rule.lifetime)) (decimal rule.keep) (codes "\n") ∙ sym (line_is (codes "rule") (fields (RuleRow prefix rule)))
+    rule_parts (prefix_text prefix) (decimal rule.low) (decimal rule.high) (decimal (lifetime_number rule.lifetime)) (decimal rule.keep) (codes "\n")
+    ∙ sym (line_is (codes "rule") (fields (RuleRow prefix rule)))
 
 group_parts : (a b c rest : List ℕ) → codes " " ++ a ++ codes " " ++ b ++ codes " " ++ c ++ rest ≡ spread (a ∷ b ∷ c ∷ []) rest
 group_parts a b c rest = simp append_assoc
@@ -225,7 +226,8 @@ count_said n small = number_again most_8 n small (omega arith)
 
 count_plain : (n : ℕ) → n ≤ most_8 → HasNoFeed (codes "dump " ++ decimal n)
 count_plain n small =
-    subst (λ (t : List ℕ). HasNoFeed (codes "dump " ++ t)) (append-nil (decimal n)) (no_feeds (codes "dump") (decimal n ∷ []) (letters (codes "dump") refl, (decimal_plain n (omega (arith, small)), tt)))
+    subst (λ (t : List ℕ). HasNoFeed (codes "dump " ++ t)) (append-nil (decimal n))
+    (no_feeds (codes "dump") (decimal n ∷ []) (letters (codes "dump") refl, (decimal_plain n (omega (arith, small)), tt)))
 
 -- so many lines were stated, and no other line was taken
 counted : Limits → ℕ → TextLoading
@@ -246,7 +248,8 @@ after_count limits s n small =
     ∙ ap (λ (r : Result TextLoading Cause). then_line 1 r (λ u. text_from 2 u bytes)) (count_first limits n small)
 
 -- the first line and the header make the same, whether so many lines were stated or none
-header_same : (limits : Limits) (s : State) → IsState s → StateInRange s → line_taken (record { stated = Some (length (register_lines s)); headed = true; rows = begun limits }) (row_line (HeaderRow (header_of 1 s)))
+header_same : (limits : Limits) (s : State) → IsState s → StateInRange s →
+    line_taken (record { stated = Some (length (register_lines s)); headed = true; rows = begun limits }) (row_line (HeaderRow (header_of 1 s)))
     ≡ line_taken (record { stated = None; headed = true; rows = begun limits }) (row_line (HeaderRow (header_of 1 s)))
 unfolding line_taken
 header_same limits s state ranges =
@@ -255,7 +258,7 @@ header_same limits s state ranges =
     let again : line_row (row_line (HeaderRow h)) ≡ Some (HeaderRow h) = line_again (HeaderRow h) (All-head IsLineRow (HeaderRow h) _ (are_lines s state ranges)) in
     let rows : length (each row_line (rows_of 1 s)) ≡ length (rows_of 1 s) = length-map (rows_of 1 s) row_line in
     let count = rows_counted 1 s in
-    let is : (n == line_count h) ≡ true = ap (λ (k : ℕ). n == k) (omega (arith, rows, count)) ∙ same_number n in
+    let is : (n == line_count h) ≡ true = ap (λ (k : ℕ). n == k) (omega (arith, rows, count)) ∙ same_test n in
     ap (or_spelling (Some n) (begun limits)) again
     ∙ ap (λ (b : Bool). or_place (cond b (row_taken (begun limits) (HeaderRow h)) None)) is
     ∙ sym (ap (or_spelling None (begun limits)) again)
@@ -311,4 +314,5 @@ pub listing_refused : (limits : Limits) (s : State) (f : LoadFault) → IsState 
 listing_refused limits s f state ranges e =
     let text = listing_text s listing.Dump in
     let whole = read_whole s.registered.limits text s (listing_again s state ranges) in
-    of_place f (rows_at_fault 2 limits s f state ranges (sym (listing_made limits s state ranges) ∙ e)) (λ n is. opposite (is_cut text) (cut_only limits text n (e ∙ ap (λ (g : LoadFault). Err g) is)).0 whole)
+    of_place f (rows_at_fault 2 limits s f state ranges (sym (listing_made limits s state ranges) ∙ e))
+    (λ n is. opposite (is_cut text) (cut_only limits text n (e ∙ ap (λ (g : LoadFault). Err g) is)).0 whole)

@@ -1,6 +1,6 @@
 -- The groups of a radio, printed one after another.
 use Rattle.std.proofs.Common.{◌≡◌, ℕ, ◌<◌, List, [], ◌∷◌, ◌++◌, length, take, drop, Some, None, refl, sym, ap, ◌∙◌, arith, append_assoc}
-use Rattle.std.specs.Prelude.{Result, Ok, Err, OnOk, slice_get}
+use Rattle.std.specs.Prelude.{slice_get}
 use Rattle.std.specs.List.{flat_map}
 use Rattle.std.proofs.lemmas.List.{append-nil, take-append-drop}
 use Rattle.std.proofs.lemmas.List.Concat.{flat_map-append}
@@ -47,8 +47,3 @@ prefix_more now more new put = ap (λ (l : List ℕ). take (length now) l) put �
 
 pub prefix_itself : (now : List ℕ) → IsPrefixOf now now
 prefix_itself now = prefix_more now [] now (sym (append-nil now))
-
--- a text and then more was put
-pub put_both : {T E : Type 0} (r : Result T E) (old mid new a b : List ℕ) → mid ≡ old ++ a → OnOk r (new ≡ mid ++ b) → OnOk r (new ≡ old ++ (a ++ b))
-put_both (Ok x) old mid new a b first second = second ∙ ap (λ (l : List ℕ). l ++ b) first ∙ append_assoc old a b
-put_both (Err e) old mid new a b first second = tt

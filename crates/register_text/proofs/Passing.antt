@@ -59,7 +59,8 @@ module _ {S : Type 0} (Passed : S → List ℕ → S → Type 0) where
       )
 
   -- all of the text was written, and then passed on
-  pub written_by : (Flushed : S → S → Type 0) (a b c d : S) (held holds more text : List ℕ) → IsHeld Passed a held b holds more → Passed b holds c → Flushed c d → held ++ more ≡ text → IsWritten Passed Flushed text a d
+  pub written_by : (Flushed : S → S → Type 0) (a b c d : S) (held holds more text : List ℕ) → IsHeld Passed a held b holds more → Passed b holds c →
+      Flushed c d → held ++ more ≡ text → IsWritten Passed Flushed text a d
   written_by Flushed a b c d held holds more text (k, taken, had, is) took flushed e =
       (k + 1, c, subst (λ (l : List ℕ). HavePassed Passed (k + 1) a l c) (is ∙ e) (one_more k a b c taken holds had took), flushed)
 
@@ -69,7 +70,8 @@ module _ {S : Type 0} (Passed : S → List ℕ → S → Type 0) where
     nothing_written a text = (0, [], text, none_passed a, refl)
 
     -- all of it was written, but not passed on
-    pub not_flushed : (a b c d : S) (held holds more text : List ℕ) → IsHeld Passed a held b holds more → Passed b holds c → Failed c d → held ++ more ≡ text → IsUnwritten Passed Failed text a d dump.Write
+    pub not_flushed : (a b c d : S) (held holds more text : List ℕ) → IsHeld Passed a held b holds more → Passed b holds c → Failed c d →
+        held ++ more ≡ text → IsUnwritten Passed Failed text a d dump.Write
     not_flushed a b c d held holds more text (k, taken, had, is) took failed e =
         (k + 1, c, text, [], subst (λ (l : List ℕ). HavePassed Passed (k + 1) a l c) (is ∙ e) (one_more k a b c taken holds had took), failed, sym (append-nil text))
 

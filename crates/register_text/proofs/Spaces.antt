@@ -6,11 +6,11 @@ use Rattle.std.specs.List.{All, flat_map, list_all}
 use Rattle.std.proofs.lemmas.List.{append-nil}
 use Rattle.std.proofs.lemmas.List.Elements.{All-nil, All-cons, All-append, All-head, All-tail}
 use Rattle.std.proofs.lemmas.List.Splits.{slice_split_at, slice_split_none}
+use Rattle.base.proofs.Bools.{first_true, second_true}
 use Rattle.identity.specs.Path.{Path, left_aligned}
 use Rattle.identity.specs.Identity.{mcc_of, mnc_of, ssi_of}
 use Rattle.identity.specs.IdentityText.{identity_text, prefix_text}
 use Rattle.identity.specs.BitsText.{bits_text}
-use Rattle.identity.proofs.NumberText.{and_left, and_right}
 use Rattle.identity.proofs.Texts.{decimal_all}
 use Rattle.identity.proofs.IdentityTexts.{aligned_below}
 use Rattle.identity.proofs.BitsTexts.{bits_printed}
@@ -37,7 +37,7 @@ Plain text = All (λ b. nat_lt 32 b ≡ true) text
 -- what only has bytes that pass a test, which no space passes
 plain_by : (p : ℕ → Bool) → ((c : ℕ) → p c ≡ true → nat_lt 32 c ≡ true) → (text : List ℕ) → list_all p text ≡ true → Plain text
 plain_by p other [] e = All-nil (λ b. nat_lt 32 b ≡ true)
-plain_by p other (c ∷ text) e = All-cons (λ b. nat_lt 32 b ≡ true) c text (other c (and_left (p c) (list_all p text) e)) (plain_by p other text (and_right (p c) (list_all p text) e))
+plain_by p other (c ∷ text) e = All-cons (λ b. nat_lt 32 b ≡ true) c text (other c (first_true (p c) (list_all p text) e)) (plain_by p other text (second_true (p c) (list_all p text) e))
 
 digit_is_plain : (c : ℕ) → is_ascii_digit c ≡ true → nat_lt 32 c ≡ true
 digit_is_plain c e = grind (arith, e)
@@ -56,7 +56,8 @@ no_feed c e = grind (arith, e)
 
 lacks_space : (text : List ℕ) → Plain text → Lacks 32 text
 lacks_space [] plain = All-nil (λ b. (b == 32) ≡ false)
-lacks_space (c ∷ text) plain = All-cons (λ b. (b == 32) ≡ false) c text (no_space c (All-head (λ b. nat_lt 32 b ≡ true) c text plain)) (lacks_space text (All-tail (λ b. nat_lt 32 b ≡ true) c text plain))
+lacks_space (c ∷ text) plain = All-cons (λ b. (b == 32) ≡ false) c text (no_space c (All-head (λ b. nat_lt 32 b ≡ true) c text plain))
+    (lacks_space text (All-tail (λ b. nat_lt 32 b ≡ true) c text plain))
 
 lacks_feed : (text : List ℕ) → Plain text → Lacks 10 text
 lacks_feed [] plain = All-nil (λ b. (b == 10) ≡ false)
@@ -82,7 +83,9 @@ prefix_plain p few = marked_plain (identity_text (left_aligned p)) (decimal (len
 bits_plain : (bits : List Bool) → length bits ≤ 2048 → Plain (bits_text bits)
 bits_plain bits few =
     let spelt = bits_printed bits (omega (arith, few)) in
-    subst Plain (sym spelt.spelt) (marked_plain (decimal (length bits)) spelt.digits 58 refl (decimal_plain (length bits) (omega (arith, few))) (plain_by is_ascii_hexdigit hexdigit_is_plain spelt.digits spelt.hexadecimal))
+    subst Plain (sym spelt.spelt)
+    (marked_plain (decimal (length bits)) spelt.digits 58 refl (decimal_plain (length bits) (omega (arith, few)))
+    (plain_by is_ascii_hexdigit hexdigit_is_plain spelt.digits spelt.hexadecimal))
 
 pub lifetime_small : (life : Lifetime) → lifetime_number life ≤ 3
 lifetime_small NotNeeded = omega arith
@@ -149,8 +152,16 @@ fields_plain (HeaderRow h) is =
       ),
     )
 fields_plain (RuleRow prefix rule) is =
-    let r = is.range in let low = r.1.0 in let high = r.1.1 in let keep = r.1.2 in
-    (letters (codes "rule") refl, (prefix_plain prefix r.0, (decimal_plain rule.low (omega (arith, low, high)), (decimal_plain rule.high (omega (arith, high)), (lifetime_plain rule.lifetime, (decimal_plain rule.keep (omega (arith, keep)), tt))))))
+    let r = is.range in let low = r.1.0 in let high = r.1.1 in let keep = r.1.2 in (
+      letters (codes "rule") refl,
+      (
+        prefix_plain prefix r.0,
+        (
+          decimal_plain rule.low (omega (arith, low, high)),
+          (decimal_plain rule.high (omega (arith, high)), (lifetime_plain rule.lifetime, (decimal_plain rule.keep (omega (arith, keep)), tt))),
+        ),
+      ),
+    )
 fields_plain (RadioRow itsi radio groups) is =
     let r = is.range in let station = r.station in let area = r.area in (
       letters (codes "radio") refl,
@@ -179,15 +190,23 @@ fields_plain (MailRow w) is =
             kind_plain w.key.kind,
             (
               identity_plain w.key.source key.1,
-              (decimal_plain w.key.reference (omega (arith, reference)), (decimal_plain w.deadline (omega (arith, deadline)), (bits_plain w.pdu (omega (arith, few)), copied_plain w.group item.group))),
+              (
+                decimal_plain w.key.reference (omega (arith, reference)),
+                (decimal_plain w.deadline (omega (arith, deadline)), (bits_plain w.pdu (omega (arith, few)), copied_plain w.group item.group)),
+              ),
             ),
           ),
         ),
       ),
     )
 fields_plain (ServedRow station last) is =
-    let r = is.range in let place = r.place in let sequence = r.kept.sequence in
-    (letters (codes "last") refl, (decimal_plain station (omega (arith, place)), (decimal_plain last.sequence (omega (arith, sequence)), (decimal_plain last.number r.number, (reply_plain last.pdu r.kept.pdu, tt)))))
+    let r = is.range in let place = r.place in let sequence = r.kept.sequence in (
+      letters (codes "last") refl,
+      (
+        decimal_plain station (omega (arith, place)),
+        (decimal_plain last.sequence (omega (arith, sequence)), (decimal_plain last.number r.number, (reply_plain last.pdu r.kept.pdu, tt))),
+      ),
+    )
 
 pub words_back : (w : List ℕ) (ws : List (List ℕ)) → AllPlain (w ∷ ws) → words (w ++ spaced ws) ≡ w ∷ ws
 words_back w [] lack = ap words (append-nil w) ∙ slice_split_none is_space w (lacks_space w lack.0)

@@ -13,11 +13,13 @@ use Rattle.register_text.specs.declared.cause.Cause.TheVariants as cause
 
 -- ---- the sector of a row
 
-made_by_sector : (stated : Option ℕ) (l n : Loading) (o : Option Row) (b : Bool) → b ≡ true → IfSome o (λ row. b ≡ is_as_stated stated row) → (o >>= row_taken l) ≡ Some n → (o >>= stated_taken stated l) ≡ Some n
+made_by_sector : (stated : Option ℕ) (l n : Loading) (o : Option Row) (b : Bool) → b ≡ true → IfSome o (λ row. b ≡ is_as_stated stated row) →
+    (o >>= row_taken l) ≡ Some n → (o >>= stated_taken stated l) ≡ Some n
 made_by_sector stated l n None b is fits e = e
 made_by_sector stated l n (Some row) b is fits e = ap (λ (c : Bool). cond c (row_taken l row) None) (sym fits ∙ is) ∙ e
 
-pub stated_made : (stated : Option ℕ) (l n : Loading) (sector : List ℕ) (b : Bool) → b ≡ true → IfSome (row_in sector) (λ row. b ≡ is_as_stated stated row) → taken_from l sector ≡ Some n → stated_from stated l sector ≡ Some n
+pub stated_made : (stated : Option ℕ) (l n : Loading) (sector : List ℕ) (b : Bool) → b ≡ true →
+    IfSome (row_in sector) (λ row. b ≡ is_as_stated stated row) → taken_from l sector ≡ Some n → stated_from stated l sector ≡ Some n
 stated_made stated l n sector b is fits e = made_by_sector stated l n (row_in sector) b is fits e
 
 refused_by_sector : (stated : Option ℕ) (l : Loading) (o : Option Row) → (o >>= row_taken l) ≡ None → (o >>= stated_taken stated l) ≡ None
@@ -56,7 +58,8 @@ none_by stated l (Some row) e = absurd cc
 pub row_made : (stated : Option ℕ) (l n : Loading) (sector line : List ℕ) → row_in sector ≡ line_row line → stated_from stated l sector ≡ Some n → or_spelling stated l (line_row line) ≡ with_rows n
 row_made stated l n sector line said e = made_by stated l n (line_row line) (ap (λ o. o >>= stated_taken stated l) (sym said) ∙ e)
 
-pub row_refused : (stated : Option ℕ) (l : Loading) (sector line : List ℕ) → row_in sector ≡ line_row line → true ≡ is_some (line_row line) → stated_from stated l sector ≡ None → or_spelling stated l (line_row line) ≡ Err cause.Place
+pub row_refused : (stated : Option ℕ) (l : Loading) (sector line : List ℕ) → row_in sector ≡ line_row line → true ≡ is_some (line_row line) →
+    stated_from stated l sector ≡ None → or_spelling stated l (line_row line) ≡ Err cause.Place
 row_refused stated l sector line said some e = refused_by stated l (line_row line) some (ap (λ o. o >>= stated_taken stated l) (sym said) ∙ e)
 
 pub no_row : (stated : Option ℕ) (l : Loading) (line : List ℕ) → false ≡ is_some (line_row line) → or_spelling stated l (line_row line) ≡ Err cause.Spelling

@@ -6,6 +6,7 @@ use Rattle.std.specs.FinMap as map
 use Rattle.std.proofs.lemmas.List.Elements.{All-nil, All-cons, All-append, All-head, All-tail}
 use Rattle.std.proofs.lemmas.Bool.{eqb-true}
 use Rattle.std.proofs.lemmas.Slice.Eq.{bytes_eq-Decides}
+use Rattle.base.proofs.Options.{some_is}
 use Rattle.identity.specs.Number.{number}
 use Rattle.identity.specs.Path.{Path}
 use Rattle.registration.specs.Limits.{AreLimits}
@@ -14,7 +15,6 @@ use Rattle.registration.specs.declared.radio.Radio.{Radio}
 use Rattle.group_attach.specs.Attached.{of_radio}
 use Rattle.centre_core.specs.State.{State, LastAccepted, IsState}
 use Rattle.centre_core.specs.StateRanges.{StateInRange}
-use Rattle.command_bytes.proofs.Steps.{some_is}
 use Rattle.console.specs.Reading.{Lacks, words}
 use Rattle.image_rows.specs.Rows.{Row, HeaderRow, RuleRow, RadioRow, MailRow, ServedRow, RowInRange, header_of, rule_row, radio_row, group_of, served_rows, rows_of}
 use Rattle.image_rows.specs.RowReading.{IsRow}
@@ -27,7 +27,9 @@ use Rattle.image_rows.proofs.Images.{are_rows}
 use Rattle.image_rows.proofs.RowsOfState.{rows_make_state}
 use Rattle.register_text.specs.Lines.{row_line, HasFirstEpoch, IsLineRow}
 use Rattle.register_text.specs.Reading.{line_row}
-use Rattle.register_text.specs.Text.{head_text, head_line, head_of, head_in, is_same, is_head, count_in, line_count, agrees_with, register_lines, TextLoading, count_taken, head_taken, or_place, or_spelling, line_taken, then_lines, lines_taken, state_of, whole, state_in, IsUnder, AreLinesOf}
+use Rattle.register_text.specs.Text.{head_text, head_line, head_of, head_in, is_same, is_head, count_in, line_count, agrees_with, register_lines}
+use Rattle.register_text.specs.Text.{TextLoading, count_taken, head_taken, or_place, or_spelling, line_taken, then_lines, lines_taken, state_of}
+use Rattle.register_text.specs.Text.{whole, state_in, IsUnder, AreLinesOf}
 use Rattle.register_text.specs.declared.cause.Cause.{Cause}
 use Rattle.register_text.specs.declared.cause.Cause.TheVariants as cause
 use Rattle.register_text.proofs.Spaces.{AllPlain, decimal_plain, letters, no_feeds, words_back}
@@ -270,7 +272,8 @@ rows_by limits lines t (Ok r) made e =
 rows_are : (limits : Limits) (lines : List (List ℕ)) (t : State) → whole (lines_taken (headed (begun limits)) lines) ≡ Some t → (lines ≡ each row_line (rows_of 1 t)) × IsUnder limits (rows_of 1 t) t
 rows_are limits lines t e = rows_by limits lines t (lines_taken (headed (begun limits)) lines) refl e
 
-head_then : (limits : Limits) (first : List ℕ) (lines : List (List ℕ)) (t : State) (b : Bool) → is_head first ≡ b → whole (then_lines (head_taken None (begun limits) b) (λ u. lines_taken u lines)) ≡ Some t → AreLinesUnder limits (first ∷ lines) t
+head_then : (limits : Limits) (first : List ℕ) (lines : List (List ℕ)) (t : State) (b : Bool) → is_head first ≡ b →
+    whole (then_lines (head_taken None (begun limits) b) (λ u. lines_taken u lines)) ≡ Some t → AreLinesUnder limits (first ∷ lines) t
 unfolding headed
 head_then limits first lines t false is e = none_some t e
 head_then limits first lines t true is e =

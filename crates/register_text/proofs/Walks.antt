@@ -1,10 +1,10 @@
 -- The row after a place, as its sector is read.
 use Rattle.std.proofs.Common.{◌≡◌, ℕ, List, Option, Some, None, refl, ap, ◌∙◌, arith}
 use Rattle.std.specs.Option.{option_map}
+use Rattle.base.proofs.Options.{some_is}
 use Rattle.prefix_tree.specs.Following.{is_after}
 use Rattle.centre_core.specs.State.{State, IsState}
 use Rattle.centre_core.specs.StateRanges.{StateInRange}
-use Rattle.command_bytes.proofs.Steps.{some_is}
 use Rattle.image_rows.specs.declared.place.RowPlace.{RowPlace}
 use Rattle.image_rows.specs.Rows.{Row, rows_of}
 use Rattle.image_rows.specs.RowReading.{IsRow, row_in}
@@ -14,11 +14,8 @@ use Rattle.image_rows.proofs.Images.{are_rows}
 use Rattle.image_rows.proofs.InTurn.{found_is}
 use Rattle.register_text.proofs.Again.{sector_read}
 
-pub none_reported : (o : Option Row) → None ≡ option_map placed_row o → None ≡ o
-none_reported None e = refl
-none_reported (Some row) e = absurd cc
-
-reported_by : (s : State) (after : Option RowPlace) (reported : RowPlace × List ℕ) → IsState s → StateInRange s → (o : Option Row) → row_after 1 s after ≡ o → Some reported ≡ option_map placed_row o → (Some reported.0 ≡ option_map place_of o) × (row_in reported.1 ≡ o)
+reported_by : (s : State) (after : Option RowPlace) (reported : RowPlace × List ℕ) → IsState s → StateInRange s → (o : Option Row) →
+    row_after 1 s after ≡ o → Some reported ≡ option_map placed_row o → (Some reported.0 ≡ option_map place_of o) × (row_in reported.1 ≡ o)
 reported_by s after reported state ranges None found e = absurd cc
 reported_by s after reported state ranges (Some row) found e =
     let same : reported ≡ placed_row row = some_is reported (placed_row row) e in

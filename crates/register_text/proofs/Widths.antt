@@ -1,12 +1,13 @@
 -- No line has more than 4,096 bytes: each word is short, and there are few of them.
-use Rattle.std.proofs.Common.{◌≡◌, ℕ, ◌+◌, ◌*◌, ◌/◌, ◌<◌, ◌≤◌, ◌^◌, Bool, true, false, List, [], ◌∷◌, ◌++◌, length, take, drop, cond, Option, Some, None, Result, Ok, Err, refl, ap, subst, ◌∙◌, arith, length-drop}
+use Rattle.std.proofs.Common.{◌≡◌, ℕ, ◌+◌, ◌*◌, ◌/◌, ◌<◌, ◌≤◌, ◌^◌, Bool, true, false, List, [], ◌∷◌, ◌++◌, length, take, drop, cond, Option, Some, None, Err, refl, ap, subst, ◌∙◌, arith, length-drop}
 use Rattle.std.specs.Prelude.{IfSome, codes, decimal}
 use Rattle.std.specs.Str.{bytes_eq}
 use Rattle.std.specs.List.{All, flat_map}
-use Rattle.std.specs.Result.{result_ok}
 use Rattle.std.proofs.lemmas.List.{length-append}
 use Rattle.std.proofs.lemmas.List.Elements.{All-head, All-tail}
 use Rattle.std.proofs.lemmas.Slice.Eq.{bytes_eq-Decides}
+use Rattle.base.proofs.Options.{some_is}
+use Rattle.base.proofs.Results.{ok_of_some}
 use Rattle.identity.specs.IdentityText.{identity_text, prefix_text}
 use Rattle.identity.specs.BitsText.{bits_text}
 use Rattle.identity.proofs.Texts.{reading_number_only}
@@ -15,7 +16,6 @@ use Rattle.mm_pdus.specs.Values.{lifetime_number}
 use Rattle.mailbox.specs.declared.key.Kind.{Kind}
 use Rattle.mailbox.specs.declared.key.Kind.TheVariants.{Message, Report}
 use Rattle.centre_core.specs.StateRanges.{IsReply}
-use Rattle.command_bytes.proofs.Steps.{some_is}
 use Rattle.listings.specs.Words.{pdu_text}
 use Rattle.console.specs.Reading.{words}
 use Rattle.listings.specs.Words.{kind_word}
@@ -80,7 +80,8 @@ groups_short (g ∷ groups) fit =
     let a = identity_fits g.0 here.0 in
     let b = decimal_fits g.1.0 (omega (arith, here.1)) in
     let c = life_short g in
-    let whole : wide (flat_map group_words (g ∷ groups)) ≡ length (identity_text g.0) + 1 + (length (decimal g.1.0) + 1 + (length (decimal (lifetime_number g.1.1)) + 1 + wide (flat_map group_words groups))) = refl in
+    let whole : wide (flat_map group_words (g ∷ groups)) ≡ length (identity_text g.0) + 1 +
+    (length (decimal g.1.0) + 1 + (length (decimal (lifetime_number g.1.1)) + 1 + wide (flat_map group_words groups))) = refl in
     omega (arith, rest, a, b, c, whole)
 
 -- ---- the line of a row
@@ -94,7 +95,10 @@ row_short (HeaderRow h) is =
     let c = decimal_fits h.radios (let s = r.radios in omega (arith, s)) in
     let d = decimal_fits h.mail (let s = r.mail in omega (arith, s)) in
     let e = decimal_fits h.served (let s = r.served in omega (arith, s)) in
-    let whole : length (row_line (HeaderRow h)) ≡ 5 + (length (decimal h.count) + 1 + (5 + 1 + (length (decimal h.rules) + 1 + (6 + 1 + (length (decimal h.radios) + 1 + (5 + 1 + (length (decimal h.mail) + 1 + (8 + 1 + (length (decimal h.served) + 1 + 0))))))))) =
+    let whole : length (row_line (HeaderRow h)) ≡ 5 +
+    (length (decimal h.count) + 1 +
+    (5 + 1 + (length (decimal h.rules) + 1 +
+    (6 + 1 + (length (decimal h.radios) + 1 + (5 + 1 + (length (decimal h.mail) + 1 + (8 + 1 + (length (decimal h.served) + 1 + 0))))))))) =
     line_length (codes "count") (fields (HeaderRow h)) in
     omega (arith, a, b, c, d, e, whole)
 row_short (RuleRow prefix rule) is =
@@ -104,7 +108,10 @@ row_short (RuleRow prefix rule) is =
     let c = decimal_fits rule.high (omega (arith, high)) in
     let d = decimal_fits (lifetime_number rule.lifetime) (omega (arith, lifetime_small rule.lifetime)) in
     let e = decimal_fits rule.keep (omega (arith, keep)) in
-    let whole : length (row_line (RuleRow prefix rule)) ≡ 4 + (length (prefix_text prefix) + 1 + (length (decimal rule.low) + 1 + (length (decimal rule.high) + 1 + (length (decimal (lifetime_number rule.lifetime)) + 1 + (length (decimal rule.keep) + 1 + 0))))) =
+    let whole : length (row_line (RuleRow prefix rule)) ≡ 4 +
+    (length (prefix_text prefix) + 1 +
+    (length (decimal rule.low) + 1 +
+    (length (decimal rule.high) + 1 + (length (decimal (lifetime_number rule.lifetime)) + 1 + (length (decimal rule.keep) + 1 + 0))))) =
     line_length (codes "rule") (fields (RuleRow prefix rule)) in
     omega (arith, a, b, c, d, e, whole)
 row_short (RadioRow itsi radio groups) is =
@@ -114,7 +121,10 @@ row_short (RadioRow itsi radio groups) is =
     let c = decimal_fits radio.area (omega (arith, area)) in
     let d = presence_short radio.present in
     let e = groups_short groups r.each_group in
-    let whole : length (row_line (RadioRow itsi radio groups)) ≡ 5 + (length (identity_text itsi) + 1 + (7 + 1 + (length (decimal radio.station) + 1 + (2 + 1 + (length (decimal radio.area) + 1 + (length (presence_word radio.present) + 1 + wide (flat_map group_words groups))))))) =
+    let whole : length (row_line (RadioRow itsi radio groups)) ≡ 5 +
+    (length (identity_text itsi) + 1 +
+    (7 + 1 + (length (decimal radio.station) + 1 +
+    (2 + 1 + (length (decimal radio.area) + 1 + (length (presence_word radio.present) + 1 + wide (flat_map group_words groups))))))) =
     line_length (codes "radio") (fields (RadioRow itsi radio groups)) in
     omega (arith, a, b, c, d, e, few, whole)
 row_short (MailRow w) is =
@@ -127,7 +137,13 @@ row_short (MailRow w) is =
     let f = decimal_fits w.deadline (omega (arith, deadline)) in
     let g = bits_fit w.pdu (omega (arith, few)) in
     let h = copied_short w.group item.group in
-    let whole : length (row_line (MailRow w)) ≡ 4 + (length (decimal w.number) + 1 + (length (identity_text w.key.destination) + 1 + (length (kind_word w.key.kind) + 1 + (length (identity_text w.key.source) + 1 + (length (decimal w.key.reference) + 1 + (length (decimal w.deadline) + 1 + (length (bits_text w.pdu) + 1 + wide (copied_words w.group)))))))) =
+    let whole : length (row_line (MailRow w)) ≡ 4 +
+    (length (decimal w.number) + 1 +
+    (length (identity_text w.key.destination) + 1 +
+    (length (kind_word w.key.kind) + 1 +
+    (length (identity_text w.key.source) + 1 +
+    (length (decimal w.key.reference) + 1 + (length (decimal w.deadline) + 1 + (length (bits_text w.pdu) + 1 + wide (copied_words w.group))))))))
+    =
     line_length (codes "item") (fields (MailRow w)) in
     omega (arith, a, b, c, d, e, f, g, h, few, whole)
 row_short (ServedRow station last) is =
@@ -136,7 +152,9 @@ row_short (ServedRow station last) is =
     let b = decimal_fits last.sequence (omega (arith, sequence)) in
     let c = decimal_fits last.number r.number in
     let d = reply_short last.pdu r.kept.pdu in
-    let whole : length (row_line (ServedRow station last)) ≡ 4 + (length (decimal station) + 1 + (length (decimal last.sequence) + 1 + (length (decimal last.number) + 1 + (length (pdu_text last.pdu) + 1 + 0)))) =
+    let whole : length (row_line (ServedRow station last)) ≡ 4 +
+    (length (decimal station) + 1 +
+    (length (decimal last.sequence) + 1 + (length (decimal last.number) + 1 + (length (pdu_text last.pdu) + 1 + 0)))) =
     line_length (codes "last") (fields (ServedRow station last)) in
     omega (arith, a, b, c, d, whole)
 
@@ -153,13 +171,11 @@ head_short r p m s lr lp lm ls =
     let c = decimal_fits m (omega (arith, lm)) in
     let d = decimal_fits s (omega (arith, ls)) in
     let ws : List (List ℕ) = codes "rules" ∷ decimal r ∷ codes "radios" ∷ decimal p ∷ codes "items" ∷ decimal m ∷ codes "stations" ∷ decimal s ∷ [] in
-    let whole : length (head_text r p m s) ≡ 23 + (5 + 1 + (length (decimal r) + 1 + (6 + 1 + (length (decimal p) + 1 + (5 + 1 + (length (decimal m) + 1 + (8 + 1 + (length (decimal s) + 1 + 0)))))))) =
+    let whole : length (head_text r p m s) ≡ 23 +
+    (5 + 1 + (length (decimal r) + 1 +
+    (6 + 1 + (length (decimal p) + 1 + (5 + 1 + (length (decimal m) + 1 + (8 + 1 + (length (decimal s) + 1 + 0)))))))) =
     line_length (codes "tetra-switch register 1") ws in
     omega (arith, a, b, c, d, whole)
-
-ok_of : {E : Type 0} (r : Result ℕ E) (n : ℕ) → result_ok r ≡ Some n → r ≡ Ok n
-ok_of (Ok x) n e = ap Ok (some_is x n e)
-ok_of (Err f) n e = absurd cc
 
 -- the number of a word
 Small : Option ℕ → Type 0
@@ -167,7 +183,7 @@ Small o = (n : ℕ) → o ≡ Some n → n ≤ most_4
 
 word_small : (word : List ℕ) → Small (number_in most_4 word)
 unfolding Small
-word_small word n e = number_most most_4 n word (ok_of _ n e)
+word_small word n e = number_most most_4 n word (ok_of_some _ n e)
 
 of_short : (r p m s : Option ℕ) (text : List ℕ) → Small r → Small p → Small m → Small s → head_of r p m s ≡ Some text → length text ≤ longest_line
 unfolding Small
@@ -223,7 +239,7 @@ no_row stated l line (Some row) long e =
 no_number : (line : List ℕ) (o : Option ℕ) → longest_line < length line → number_in most_8 (drop 5 line) ≡ o → o ≡ None
 no_number line None long e = refl
 no_number line (Some n) long e =
-    let only = reading_number_only most_8 n (drop 5 line) (omega arith) (ok_of _ n e) in
+    let only = reading_number_only most_8 n (drop 5 line) (omega arith) (ok_of_some _ n e) in
     let fits = decimal_fits n (omega (arith, only.0)) in
     let short : length (drop 5 line) ≡ length (decimal n) = ap length only.1 in
     let all = length-drop 5 line in

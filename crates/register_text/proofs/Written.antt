@@ -31,7 +31,8 @@ grown None old new more e = tt
 grown (Some x) old new more e = ap (λ (l : List ℕ). x ++ l) e ∙ sym (append_assoc x old more)
 
 -- the text began with the first line, then grew as it was written, and then the rest of it was written
-pub all_written : (a b c d : Option (List ℕ)) (empty first head last more : List ℕ) → empty ≡ [] → first ≡ empty ++ head → Appends (append_known a first) (append_known b last) more → Appends b c last → Keeps c d
+pub all_written : (a b c d : Option (List ℕ)) (empty first head last more : List ℕ) → empty ≡ [] → first ≡ empty ++ head →
+    Appends (append_known a first) (append_known b last) more → Appends b c last → Keeps c d
     → Appends a d (head ++ more)
 all_written None b c d empty first head last more e f p q r = tt
 all_written (Some x) None c d empty first head last more e f p q r = absurd p

@@ -1,26 +1,26 @@
-//! The words of a line, read into the bytes of a row. Whoever reads these bytes checks the values.
-ghost use Rattle.std.specs.Prelude.{◌≡◌, ◌≤◌, ◌+◌, ◌*◌, ◌/◌, ◌++◌, IfOk, IfSome, length, map, option_map};
-ghost use Rattle.identity.specs.BitsText.{most_bits};
+//! The words of a line, read as a row and written as its sector. Whoever reads the sector checks the PDU of an item.
+ghost use Rattle.std.specs.Prelude.{◌≡◌, ◌≤◌, ◌*◌, IfOk, IfSome, length, map, option_map};
 ghost use Rattle.centre_core.specs.Ranges.{IsShort};
 ghost use Rattle.group_attach.specs.Applied.{most_of_radio};
-ghost use Rattle.command_bytes.specs.Fields.{big};
-ghost use Rattle.command_bytes.specs.Text.{bits_text, key_text, prefix_text};
-ghost use Rattle.console.specs.Reading.{key_in, kind_in, pdu_in};
-ghost use Rattle.image_rows.specs.RowText.{copied_text, mail_tag, padded};
-ghost use Rattle.register_text.specs.Reading.{copied_in, fields_in, header_in, item_in, last_in, number_in, reply_in, rule_in, sector_in};
-ghost use Rattle.register_text.specs.Reading.{group_in, groups_in, one_group_in, place_in, presence_in, radio_in, with_groups};
+ghost use Rattle.console.specs.Reading.{area_in, identity_in, key_in, kind_in, lifetime_in, pdu_in, rule_in, sequence_in};
+ghost use Rattle.image_rows.specs.RowText.{group_in as group_of, sector_of};
+ghost use Rattle.register_text.specs.Reading.{copied_in, fields_in, header_in, item_in, last_in, number_in, reply_in, rule_row_in, sector_in};
+ghost use Rattle.register_text.specs.Reading.{groups_in, one_group_in, place_in, presence_in, radio_in, radio_of};
 
-use command_bytes::Room;
-use command_bytes::put::{put_bits, put_key, put_number, put_prefix};
-use group_attach::MOST_OF_RADIO;
+use centre_core::Sequence;
+use group_attach::{Attachment, MOST_OF_RADIO};
 use identity::{
-    BitWriter, Bits, Fault, Gtsi, Prefix, parse_bits, parse_gtsi, parse_itsi, parse_number,
-    parse_prefix,
+    Bits, Fault, Gtsi, Itsi, parse_bits, parse_gtsi, parse_itsi, parse_number, parse_prefix,
 };
-use image_rows::{Header, SectorText, header_row};
-use mailbox::{Key, Kind};
+use image_rows::{Header, header_row, mail_row, radio_row, rule_row, served_row};
+use mailbox::{Item, Key, Kind};
+use mm_pdus::{ClassOfUsage, Lifetime};
+use registration::{LocationArea, Radio, Rule, Station};
 use sds_tl::MessageReference;
 use std::alloc::{AllocError, Allocator};
+
+/// The latest moment at which an item expires, in seconds: the greatest moment plus the greatest keep.
+const LATEST_DEADLINE: u64 = 8_589_934_590;
 
 /// The number that a word spells, if it is at most `most`.
 #[tactic(auto, using(crate::proofs::Short::number_most))]
@@ -36,7 +36,7 @@ pub(crate) fn number_in(word: &[u8], most: u64) -> Option<u64>
 
 /// The words `N rules N radios N items N stations N` as a header's row.
 fn header_in(words: &[&[u8]]) -> Option<[u8; 512]>
-    ensures { result ≡ header_in (map (λ w. w.now) words.now) }
+    ensures { result ≡ option_map sector_of (header_in (map (λ w. w.now) words.now)) }
 {
     let [count, _, rules, _, radios, _, mail, _, served] = words else {
         return None;
@@ -61,146 +61,152 @@ fn header_in(words: &[&[u8]]) -> Option<[u8; 512]>
     }))
 }
 
-#[tactic(auto, using(std::proofs::Common::append_assoc))]
-fn rule_sector(prefix: &Prefix, low: u64, high: u64, lifetime: u64, keep: u64) -> [u8; 512]
-    ensures { result ≡ padded (big 1 17 ++ (prefix_text prefix.now ++ (big 2 low ++ big 2 high ++ big 1 lifetime ++ big 4 keep))) }
+fn area_in(word: &[u8]) -> Option<LocationArea>
+    ensures { result ≡ area_in word.now }
 {
-    let mut text = SectorText::new();
-    put_number(&mut text, 1, 17);
-    put_prefix(&mut text, prefix);
-    put_number(&mut text, 2, low);
-    put_number(&mut text, 2, high);
-    put_number(&mut text, 1, lifetime);
-    put_number(&mut text, 4, keep);
-    text.finish()
+    match number_in(word, 16_383) {
+        Some(area) => LocationArea::new(area as u32),
+        None => None,
+    }
 }
 
-/// The words `PREFIX LOW HIGH LIFE KEEP` as a rule's row.
-fn rule_in(words: &[&[u8]]) -> Option<[u8; 512]>
-    ensures { result ≡ rule_in (map (λ w. w.now) words.now) }
+fn lifetime_in(word: &[u8]) -> Option<Lifetime>
+    ensures { result ≡ lifetime_in word.now }
 {
-    let [prefix, low, high, lifetime, keep] = words else {
-        return None;
-    };
-    let (Ok(prefix), Some(low), Some(high), Some(lifetime), Some(keep)) = (
-        parse_prefix(prefix),
-        number_in(low, 65_535),
-        number_in(high, 65_535),
-        number_in(lifetime, 255),
+    match number_in(word, 3) {
+        Some(lifetime) => Lifetime::from_number(lifetime as u8),
+        None => None,
+    }
+}
+
+/// The rule that the words `LOW HIGH LIFE KEEP` give.
+fn rule_in(low: &[u8], high: &[u8], lifetime: &[u8], keep: &[u8]) -> Option<Rule>
+    ensures { result ≡ rule_in low.now high.now lifetime.now keep.now }
+{
+    let (Some(low), Some(high), Some(lifetime), Some(keep)) = (
+        area_in(low),
+        area_in(high),
+        lifetime_in(lifetime),
         number_in(keep, 4_294_967_295),
     ) else {
         return None;
     };
-    Some(rule_sector(&prefix, low, high, lifetime, keep))
+    Rule::new(low, high, lifetime, keep as u32)
 }
 
-/// 0 for a radio that is absent, else 1.
-fn presence_in(word: &[u8]) -> u64
+/// The words `PREFIX LOW HIGH LIFE KEEP` as a rule's row.
+fn rule_row_in(words: &[&[u8]]) -> Option<[u8; 512]>
+    ensures { result ≡ option_map sector_of (rule_row_in (map (λ w. w.now) words.now)) }
+{
+    let [prefix, low, high, lifetime, keep] = words else {
+        return None;
+    };
+    let (Ok(prefix), Some(rule)) = (parse_prefix(prefix), rule_in(low, high, lifetime, keep)) else {
+        return None;
+    };
+    Some(rule_row(&prefix, &rule))
+}
+
+fn presence_in(word: &[u8]) -> Option<bool>
     ensures { result ≡ presence_in word.now }
 {
-    if word == b"absent".as_slice() { 0 } else { 1 }
+    if word == b"present".as_slice() {
+        Some(true)
+    } else if word == b"absent".as_slice() {
+        Some(false)
+    } else {
+        None
+    }
 }
 
-/// Appends where a radio is, from the words of `ITSI station N la N present`.
-#[tactic(auto, using(std::proofs::Common::append_assoc))]
-fn put_place<R: Room>(
-    out: &mut R,
-    itsi: &[u8],
-    station: &[u8],
-    area: &[u8],
-    present: &[u8],
-) -> Option<()>
-    requires room { 11 ≤ R.room out.old }
-    ensures held { option_map (λ _. R.held out.new) result
-        ≡ option_map (λ place. R.held out.old ++ place) (place_in itsi.now station.now area.now present.now) }
-    ensures room { R.room out.old ≤ R.room out.new + 11 }
+/// Where a radio is, from the words of `station N la N present`.
+fn place_in(station: &[u8], area: &[u8], present: &[u8]) -> Option<Radio>
+    ensures { result ≡ place_in station.now area.now present.now }
 {
-    let (Ok(itsi), Some(station), Some(area)) = (
-        parse_itsi(itsi),
+    let (Some(station), Some(area), Some(present)) = (
         number_in(station, 65_535),
-        number_in(area, 65_535),
+        area_in(area),
+        presence_in(present),
     ) else {
         return None;
     };
-    put_number(out, 6, itsi.number());
-    put_number(out, 2, station);
-    put_number(out, 2, area);
-    put_number(out, 1, presence_in(present));
-    Some(())
+    Some(Radio {
+        station: Station::new(station as u16),
+        area,
+        present,
+    })
 }
 
-/// Appends a group of a radio, from the words `GTSI CLASS LIFE`.
-#[tactic(auto, using(std::proofs::Common::append_assoc))]
-fn put_named_group<R: Room>(out: &mut R, gtsi: &[u8], class: &[u8], lifetime: &[u8]) -> Option<()>
-    requires room { 7 ≤ R.room out.old }
-    ensures held { option_map (λ _. R.held out.new) result ≡ option_map (λ group. R.held out.old ++ group) (group_in gtsi.now class.now lifetime.now) }
-    ensures room { R.room out.old ≤ R.room out.new + 7 }
+/// A group of a radio, from the words `GTSI CLASS LIFE`.
+fn group_in(itsi: Itsi, words: &[&[u8]]) -> Option<Attachment>
+    ensures { option_map group_of result ≡ one_group_in (map (λ w. w.now) words.now) }
 {
+    let [gtsi, class, lifetime] = words else {
+        return None;
+    };
     let (Ok(gtsi), Some(class), Some(lifetime)) = (
         parse_gtsi(gtsi),
         number_in(class, 7),
-        number_in(lifetime, 3),
+        lifetime_in(lifetime),
     ) else {
         return None;
     };
-    put_number(out, 6, gtsi.number());
-    put_number(out, 1, 4 * class + lifetime);
-    Some(())
+    Some(Attachment {
+        itsi,
+        gtsi,
+        class: ClassOfUsage::new(class as u8),
+        lifetime,
+    })
 }
 
-// Appends the group that three words name.
-fn put_group<R: Room>(out: &mut R, words: &[&[u8]]) -> Option<()>
-    requires room { 7 ≤ R.room out.old }
-    ensures held { option_map (λ _. R.held out.new) result ≡ option_map (λ group. R.held out.old ++ group) (one_group_in (map (λ w. w.now) words.now)) }
-    ensures room { R.room out.old ≤ R.room out.new + 7 }
+/// The groups of a radio, each of three words.
+fn groups_in<A: Allocator>(
+    alloc: A,
+    itsi: Itsi,
+    words: &[&[u8]],
+) -> Result<Option<Vec<Attachment, A>>, AllocError>
+    ensures { IfOk result (λ groups. option_map (λ list. map group_of list.items) groups ≡ groups_in (map (λ w. w.now) words.now)) }
 {
-    match words {
-        [gtsi, class, lifetime] => put_named_group(out, gtsi, class, lifetime),
-        _ => None,
-    }
-}
-
-fn put_groups<R: Room>(out: &mut R, words: &[&[u8]]) -> Option<()>
-    requires room { 7 * (length words.now / 3) ≤ R.room out.old }
-    ensures { option_map (λ _. R.held out.new) result ≡ option_map (λ groups. R.held out.old ++ groups) (groups_in (map (λ w. w.now) words.now)) }
-{
+    let mut groups = Vec::new(alloc);
     for at in 0..words.len() / 3 {
-        let Some(()) = put_group(out, &words[3 * at..3 * at + 3]) else {
-            return None;
+        let Some(group) = group_in(itsi, &words[3 * at..3 * at + 3]) else {
+            return Ok(None);
         };
+        groups.push(group)?;
     }
-    Some(())
+    Ok(Some(groups))
 }
 
-fn radio_sector(
+#[tactic(auto, using(crate::proofs::WordGroups::few_groups))]
+fn placed_radio<A: Allocator>(
+    alloc: A,
     itsi: &[u8],
-    station: &[u8],
-    area: &[u8],
-    present: &[u8],
+    place: Option<Radio>,
     groups: &[&[u8]],
-) -> Option<[u8; 512]>
+) -> Result<Option<[u8; 512]>, AllocError>
     requires { length groups.now ≤ 3 * most_of_radio }
-    ensures { result ≡ with_groups (place_in itsi.now station.now area.now present.now) (map (λ w. w.now) groups.now) }
+    ensures { IfOk result (λ sector. sector ≡ option_map sector_of (radio_of (identity_in itsi.now) place (groups_in (map (λ w. w.now) groups.now)))) }
 {
-    let mut text = SectorText::new();
-    put_number(&mut text, 1, 18);
-    put_place(&mut text, itsi, station, area, present)?;
-    put_number(&mut text, 1, (groups.len() / 3) as u64);
-    put_groups(&mut text, groups)?;
-    Some(text.finish())
+    let (Ok(itsi), Some(radio)) = (parse_itsi(itsi), place) else {
+        return Ok(None);
+    };
+    let Some(groups) = groups_in(alloc, itsi, groups)? else {
+        return Ok(None);
+    };
+    Ok(Some(radio_row(itsi, &radio, &groups)))
 }
 
 /// The words `ITSI station N la N present`, then those of the groups, as a radio's row.
-fn radio_in(words: &[&[u8]]) -> Option<[u8; 512]>
-    ensures { result ≡ radio_in (map (λ w. w.now) words.now) }
+fn radio_in<A: Allocator>(alloc: A, words: &[&[u8]]) -> Result<Option<[u8; 512]>, AllocError>
+    ensures { IfOk result (λ sector. sector ≡ option_map sector_of (radio_in (map (λ w. w.now) words.now))) }
 {
     let [itsi, _, station, _, area, present, groups @ ..] = words else {
-        return None;
+        return Ok(None);
     };
     if groups.len() > 3 * MOST_OF_RADIO {
-        return None;
+        return Ok(None);
     }
-    radio_sector(itsi, station, area, present, groups)
+    placed_radio(alloc, itsi, place_in(station, area, present), groups)
 }
 
 fn kind_in(word: &[u8]) -> Option<Kind>
@@ -262,53 +268,9 @@ fn bits_in<A: Allocator>(alloc: A, word: &[u8]) -> Result<Option<Bits<A>>, Alloc
     }
 }
 
-fn tag_of(group: Option<Gtsi>) -> u64
-    ensures { result ≡ mail_tag group }
-{
-    match group {
-        None => 19,
-        Some(_) => 21,
-    }
-}
-
-fn put_copied<R: Room>(out: &mut R, group: Option<Gtsi>)
-    requires room { 6 ≤ R.room out.old }
-    ensures held { R.held out.new ≡ R.held out.old ++ copied_text group }
-    ensures room { R.room out.old ≤ R.room out.new + 6 }
-{
-    if let Some(group) = group {
-        put_number(out, 6, group.number());
-    }
-}
-
-/// An item without its PDU.
-#[derive(Clone, Copy)]
-struct ItemFields {
-    number: u64,
-    key: Key,
-    deadline: u64,
-    group: Option<Gtsi>,
-}
-
-#[tactic(auto, using(std::proofs::Common::append_assoc))]
-fn item_sector<A: Allocator>(fields: &ItemFields, pdu: &Bits<A>) -> [u8; 512]
-    requires { length pdu.now ≤ most_bits }
-    ensures { result ≡ padded (big 1 (mail_tag fields.now.group)
-        ++ (big 8 fields.now.number ++ big 8 fields.now.deadline ++ key_text fields.now.key ++ copied_text fields.now.group ++ bits_text pdu.now)) }
-{
-    let mut text = SectorText::new();
-    put_number(&mut text, 1, tag_of(fields.group));
-    put_number(&mut text, 8, fields.number);
-    put_number(&mut text, 8, fields.deadline);
-    put_key(&mut text, &fields.key);
-    put_copied(&mut text, fields.group);
-    put_bits(&mut text, pdu);
-    text.finish()
-}
-
 /// The words `NUMBER DEST KIND SOURCE REF DEADLINE PDU`, then the group of a copy, as an item's row.
 fn item_in<A: Allocator>(alloc: A, words: &[&[u8]]) -> Result<Option<[u8; 512]>, AllocError>
-    ensures { IfOk result (λ sector. sector ≡ item_in (map (λ w. w.now) words.now)) }
+    ensures { IfOk result (λ sector. sector ≡ option_map sector_of (item_in (map (λ w. w.now) words.now))) }
 {
     let [
         number,
@@ -326,7 +288,7 @@ fn item_in<A: Allocator>(alloc: A, words: &[&[u8]]) -> Result<Option<[u8; 512]>,
     let (Some(number), Some(key), Some(deadline), Some(group)) = (
         number_in(number, u64::MAX),
         key_in(destination, kind, source, reference),
-        number_in(deadline, u64::MAX),
+        number_in(deadline, LATEST_DEADLINE),
         copied_in(group),
     ) else {
         return Ok(None);
@@ -334,50 +296,42 @@ fn item_in<A: Allocator>(alloc: A, words: &[&[u8]]) -> Result<Option<[u8; 512]>,
     let Some(pdu) = bits_in(alloc, pdu)? else {
         return Ok(None);
     };
-    let fields = ItemFields {
-        number,
-        key,
-        deadline,
-        group,
-    };
-    Ok(Some(item_sector(&fields, &pdu)))
+    Ok(Some(mail_row(&Item::new(key, number, deadline, pdu, group))))
 }
 
-/// The bits of a reply: none for `-`.
-fn reply_in<A: Allocator>(alloc: A, word: &[u8]) -> Result<Option<Bits<A>>, AllocError>
-    ensures ok { IfOk result (λ bits. bits ≡ reply_in word.now) }
-    ensures short { IfOk result (λ bits. IsShort bits) }
+fn sequence_in(word: &[u8]) -> Option<Sequence>
+    ensures { result ≡ sequence_in word.now }
+{
+    match number_in(word, 4_294_967_295) {
+        Some(sequence) => Sequence::new(sequence as u32),
+        None => None,
+    }
+}
+
+/// The PDU of a reply: none for `-`.
+fn reply_in<A: Allocator>(alloc: A, word: &[u8]) -> Result<Option<Option<Bits<A>>>, AllocError>
+    ensures ok { IfOk result (λ pdu. pdu ≡ reply_in word.now) }
+    ensures short { IfOk result (λ pdu. IfSome pdu (λ bits. IsShort bits)) }
 {
     if word == b"-".as_slice() {
-        return Ok(Some(BitWriter::new(alloc).finish()));
+        return Ok(Some(None));
     }
-    bits_in(alloc, word)
-}
-
-#[tactic(auto, using(std::proofs::Common::append_assoc))]
-fn last_sector<A: Allocator>(station: u64, sequence: u64, number: u64, pdu: &Bits<A>) -> [u8; 512]
-    requires { length pdu.now ≤ most_bits }
-    ensures { result ≡ padded (big 1 20 ++ (big 2 station ++ big 4 sequence ++ big 8 number ++ bits_text pdu.now)) }
-{
-    let mut text = SectorText::new();
-    put_number(&mut text, 1, 20);
-    put_number(&mut text, 2, station);
-    put_number(&mut text, 4, sequence);
-    put_number(&mut text, 8, number);
-    put_bits(&mut text, pdu);
-    text.finish()
+    match bits_in(alloc, word)? {
+        Some(bits) => Ok(Some(Some(bits))),
+        None => Ok(None),
+    }
 }
 
 /// The words `STATION SEQ NUMBER PDU` as a station's row.
 fn last_in<A: Allocator>(alloc: A, words: &[&[u8]]) -> Result<Option<[u8; 512]>, AllocError>
-    ensures { IfOk result (λ sector. sector ≡ last_in (map (λ w. w.now) words.now)) }
+    ensures { IfOk result (λ sector. sector ≡ option_map sector_of (last_in (map (λ w. w.now) words.now))) }
 {
     let [station, sequence, number, pdu] = words else {
         return Ok(None);
     };
     let (Some(station), Some(sequence), Some(number)) = (
         number_in(station, 65_535),
-        number_in(sequence, 4_294_967_295),
+        sequence_in(sequence),
         number_in(number, u64::MAX),
     ) else {
         return Ok(None);
@@ -385,7 +339,8 @@ fn last_in<A: Allocator>(alloc: A, words: &[&[u8]]) -> Result<Option<[u8; 512]>,
     let Some(pdu) = reply_in(alloc, pdu)? else {
         return Ok(None);
     };
-    Ok(Some(last_sector(station, sequence, number, &pdu)))
+    let station = Station::new(station as u16);
+    Ok(Some(served_row(station, sequence, number, &pdu)))
 }
 
 /// The row of a keyword and the words after it.
@@ -394,14 +349,14 @@ fn fields_in<A: Allocator>(
     name: &[u8],
     words: &[&[u8]],
 ) -> Result<Option<[u8; 512]>, AllocError>
-    ensures { IfOk result (λ sector. sector ≡ fields_in name.now (map (λ w. w.now) words.now)) }
+    ensures { IfOk result (λ sector. sector ≡ option_map sector_of (fields_in name.now (map (λ w. w.now) words.now))) }
 {
     if name == b"count".as_slice() {
         Ok(header_in(words))
     } else if name == b"rule".as_slice() {
-        Ok(rule_in(words))
+        Ok(rule_row_in(words))
     } else if name == b"radio".as_slice() {
-        Ok(radio_in(words))
+        radio_in(alloc, words)
     } else if name == b"item".as_slice() {
         item_in(alloc, words)
     } else if name == b"last".as_slice() {
@@ -411,7 +366,7 @@ fn fields_in<A: Allocator>(
     }
 }
 
-/// The bytes of the row that the words give, not yet checked. Only a PDU needs memory.
+/// The sector of the row that the words give, not yet checked. A PDU needs memory, and a list of groups.
 pub(crate) fn sector_in<A: Allocator>(
     alloc: A,
     words: &[&[u8]],

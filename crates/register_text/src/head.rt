@@ -7,8 +7,8 @@ ghost use Rattle.register_text.specs.Text.{head_in, head_line, head_of, head_tex
 
 use crate::fields::number_in;
 use crate::parsing::words;
-use crate::words::{Word, put_words};
 use identity::put_whole;
+use listings::{Part, put_parts};
 use registration::Limits;
 use std::alloc::{AllocError, Allocator};
 
@@ -21,23 +21,21 @@ struct Numbers {
     stations: u64,
 }
 
-#[tactic(auto, using(std::proofs::Common::append_assoc))]
 fn put_head<A: Allocator>(out: &mut Vec<u8, A>, numbers: &Numbers) -> Result<(), AllocError>
     ensures ok { OnOk result (out.new.items ≡ out.old.items ++ head_text numbers.now.rules numbers.now.radios numbers.now.mail numbers.now.stations) }
     ensures err { OnErr result (IsPrefixOf out.old.items out.new.items) }
 {
-    out.extend_from_slice(b"tetra-switch register 1")?;
-    let words: [Word; 8] = [
-        Word::Text("rules"),
-        Word::Number(numbers.rules),
-        Word::Text("radios"),
-        Word::Number(numbers.radios),
-        Word::Text("items"),
-        Word::Number(numbers.mail),
-        Word::Text("stations"),
-        Word::Number(numbers.stations),
+    let line: [Part; 8] = [
+        Part::Text("tetra-switch register 1 rules "),
+        Part::Number(numbers.rules),
+        Part::Text(" radios "),
+        Part::Number(numbers.radios),
+        Part::Text(" items "),
+        Part::Number(numbers.mail),
+        Part::Text(" stations "),
+        Part::Number(numbers.stations),
     ];
-    put_words(out, &words)
+    put_parts(out, &line)
 }
 
 /// Appends the first line of the text of a register with these limits, without its line feed. If it is out of memory,

@@ -14,7 +14,6 @@ mod parsing;
 mod printing;
 mod sink;
 mod source;
-mod words;
 mod writer;
 
 pub use cause::Cause;

@@ -5,18 +5,15 @@ ghost use Rattle.identity.specs.NumberText.{IsPrefixOf};
 ghost use Rattle.image_rows.specs.Rows.{HeaderRow, RuleRow, RadioRow, MailRow, ServedRow};
 ghost use Rattle.image_rows.specs.RowText.{group_in};
 ghost use Rattle.image_rows.specs.RowViews.{row_view};
-ghost use Rattle.listings.specs.Words.{pdu_text};
-ghost use Rattle.listings.specs.Words.{kind_word};
-ghost use Rattle.register_text.specs.Inside.Words.{word_text};
-ghost use Rattle.register_text.specs.Lines.{copied_words, group_words, presence_word, row_line, spaced};
+ghost use Rattle.register_text.specs.Lines.{copied_words, group_words, row_line, spaced};
 
-use crate::words::{Word, put_words};
 use centre_core::Sequence;
 use command_bytes::bits::PackedBits;
 use group_attach::Attachment;
 use identity::{Bits, Gtsi, Itsi, Prefix, put_whole};
 use image_rows::{Header, PackedGroups, ReadItem, ReadRow};
-use mailbox::{Item, Kind};
+use listings::{Part, kind_word, pdu_part, presence_word, put_parts};
+use mailbox::Item;
 use registration::{Radio, Rule, Station};
 use std::alloc::{AllocError, Allocator};
 
@@ -25,19 +22,19 @@ fn put_header<A: Allocator>(out: &mut Vec<u8, A>, header: &Header) -> Result<(),
     ensures ok { OnOk result (out.new.items ≡ out.old.items ++ row_line (HeaderRow header.now)) }
     ensures err { OnErr result (IsPrefixOf out.old.items out.new.items) }
 {
-    out.extend_from_slice(b"count")?;
-    let words: [Word; 9] = [
-        Word::Number(header.count),
-        Word::Text("rules"),
-        Word::Number(u64::from(header.rules)),
-        Word::Text("radios"),
-        Word::Number(u64::from(header.radios)),
-        Word::Text("items"),
-        Word::Number(u64::from(header.mail)),
-        Word::Text("stations"),
-        Word::Number(u64::from(header.served)),
+    let line: [Part; 10] = [
+        Part::Text("count "),
+        Part::Number(header.count),
+        Part::Text(" rules "),
+        Part::Number(u64::from(header.rules)),
+        Part::Text(" radios "),
+        Part::Number(u64::from(header.radios)),
+        Part::Text(" items "),
+        Part::Number(u64::from(header.mail)),
+        Part::Text(" stations "),
+        Part::Number(u64::from(header.served)),
     ];
-    put_words(out, &words)
+    put_parts(out, &line)
 }
 
 #[tactic(auto, using(std::proofs::Common::append_assoc))]
@@ -49,21 +46,19 @@ fn put_rule<A: Allocator>(
     ensures ok { OnOk result (out.new.items ≡ out.old.items ++ row_line (RuleRow prefix rule.now)) }
     ensures err { OnErr result (IsPrefixOf out.old.items out.new.items) }
 {
-    out.extend_from_slice(b"rule")?;
-    let words: [Word; 5] = [
-        Word::Prefix(prefix),
-        Word::Number(u64::from(rule.low().number())),
-        Word::Number(u64::from(rule.high().number())),
-        Word::Number(u64::from(rule.lifetime().number())),
-        Word::Number(u64::from(rule.keep())),
+    let line: [Part; 10] = [
+        Part::Text("rule "),
+        Part::Prefix(prefix),
+        Part::Text(" "),
+        Part::Number(u64::from(rule.low().number())),
+        Part::Text(" "),
+        Part::Number(u64::from(rule.high().number())),
+        Part::Text(" "),
+        Part::Number(u64::from(rule.lifetime().number())),
+        Part::Text(" "),
+        Part::Number(u64::from(rule.keep())),
     ];
-    put_words(out, &words)
-}
-
-fn presence_word(present: bool) -> &'static str
-    ensures { result.now ≡ presence_word present }
-{
-    if present { "present" } else { "absent" }
+    put_parts(out, &line)
 }
 
 #[tactic(auto, using(std::proofs::Common::append_assoc))]
@@ -71,12 +66,15 @@ fn put_group<A: Allocator>(out: &mut Vec<u8, A>, group: &Attachment) -> Result<(
     ensures ok { OnOk result (out.new.items ≡ out.old.items ++ spaced (group_words (group_in group.now))) }
     ensures err { OnErr result (IsPrefixOf out.old.items out.new.items) }
 {
-    let words: [Word; 3] = [
-        Word::Group(group.gtsi),
-        Word::Number(u64::from(group.class.number())),
-        Word::Number(u64::from(group.lifetime.number())),
+    let line: [Part; 6] = [
+        Part::Text(" "),
+        Part::Group(group.gtsi),
+        Part::Text(" "),
+        Part::Number(u64::from(group.class.number())),
+        Part::Text(" "),
+        Part::Number(u64::from(group.lifetime.number())),
     ];
-    put_words(out, &words)
+    put_parts(out, &line)
 }
 
 fn put_groups<A: Allocator>(
@@ -103,16 +101,16 @@ fn put_place<A: Allocator>(
     ensures ok { OnOk result (out.new.items ≡ out.old.items ++ row_line (RadioRow itsi radio.now [])) }
     ensures err { OnErr result (IsPrefixOf out.old.items out.new.items) }
 {
-    out.extend_from_slice(b"radio")?;
-    let words: [Word; 6] = [
-        Word::Radio(itsi),
-        Word::Text("station"),
-        Word::Number(u64::from(radio.station.number())),
-        Word::Text("la"),
-        Word::Number(u64::from(radio.area.number())),
-        Word::Text(presence_word(radio.present)),
+    let line: [Part; 7] = [
+        Part::Text("radio "),
+        Part::Radio(itsi),
+        Part::Text(" station "),
+        Part::Number(u64::from(radio.station.number())),
+        Part::Text(" la "),
+        Part::Number(u64::from(radio.area.number())),
+        Part::Text(presence_word(radio.present)),
     ];
-    put_words(out, &words)
+    put_parts(out, &line)
 }
 
 #[tactic(auto, using(std::proofs::Common::append_assoc))]
@@ -129,15 +127,6 @@ fn put_radio<A: Allocator>(
     put_groups(out, itsi, groups)
 }
 
-fn kind_word(kind: Kind) -> &'static str
-    ensures { result.now ≡ kind_word kind }
-{
-    match kind {
-        Kind::Message => "m",
-        Kind::Report => "r",
-    }
-}
-
 fn put_copied<A: Allocator>(out: &mut Vec<u8, A>, group: Option<Gtsi>) -> Result<(), AllocError>
     ensures ok { OnOk result (out.new.items ≡ out.old.items ++ spaced (copied_words group)) }
     ensures err { OnErr result (IsPrefixOf out.old.items out.new.items) }
@@ -145,8 +134,8 @@ fn put_copied<A: Allocator>(out: &mut Vec<u8, A>, group: Option<Gtsi>) -> Result
     match group {
         None => Ok(()),
         Some(gtsi) => {
-            let words: [Word; 1] = [Word::Group(gtsi)];
-            put_words(out, &words)
+            let word: [Part; 2] = [Part::Text(" "), Part::Group(gtsi)];
+            put_parts(out, &word)
         }
     }
 }
@@ -160,18 +149,24 @@ fn put_item_fields<A: Allocator, B: Allocator>(
     ensures ok { OnOk result (out.new.items ≡ out.old.items ++ row_line (MailRow (record item.now { group = None }))) }
     ensures err { OnErr result (IsPrefixOf out.old.items out.new.items) }
 {
-    out.extend_from_slice(b"item")?;
     let key = item.key();
-    let words: [Word<B>; 7] = [
-        Word::Number(item.number()),
-        Word::Radio(key.destination),
-        Word::Text(kind_word(key.kind)),
-        Word::Radio(key.source),
-        Word::Number(u64::from(key.reference.number())),
-        Word::Number(item.deadline()),
-        Word::Pdu(item.pdu()),
+    let line: [Part<B>; 14] = [
+        Part::Text("item "),
+        Part::Number(item.number()),
+        Part::Text(" "),
+        Part::Radio(key.destination),
+        Part::Text(" "),
+        Part::Text(kind_word(key.kind)),
+        Part::Text(" "),
+        Part::Radio(key.source),
+        Part::Text(" "),
+        Part::Number(u64::from(key.reference.number())),
+        Part::Text(" "),
+        Part::Number(item.deadline()),
+        Part::Text(" "),
+        Part::Pdu(item.pdu()),
     ];
-    put_words(out, &words)
+    put_parts(out, &line)
 }
 
 #[tactic(auto, using(std::proofs::Common::append_assoc))]
@@ -198,15 +193,6 @@ fn put_mail<A: Allocator, B: Allocator + Clone>(
         return Err(AllocError);
     };
     put_item(out, &item)
-}
-
-fn pdu_word<B: Allocator>(pdu: &Option<Bits<B>>) -> Word<'_, B>
-    ensures { word_text result ≡ pdu_text pdu.now }
-{
-    match pdu {
-        None => Word::Text("-"),
-        Some(bits) => Word::Pdu(bits),
-    }
 }
 
 fn copied<B: Allocator + Clone>(
@@ -239,14 +225,17 @@ fn put_last<A: Allocator, B: Allocator>(
         ++ row_line (ServedRow last.now.station (record { sequence = last.now.sequence; number = last.now.number; pdu = pdu.now }))) }
     ensures err { OnErr result (IsPrefixOf out.old.items out.new.items) }
 {
-    out.extend_from_slice(b"last")?;
-    let words: [Word<B>; 4] = [
-        Word::Number(u64::from(last.station.number())),
-        Word::Number(u64::from(last.sequence.number())),
-        Word::Number(last.number),
-        pdu_word(pdu),
+    let line: [Part<B>; 8] = [
+        Part::Text("last "),
+        Part::Number(u64::from(last.station.number())),
+        Part::Text(" "),
+        Part::Number(u64::from(last.sequence.number())),
+        Part::Text(" "),
+        Part::Number(last.number),
+        Part::Text(" "),
+        pdu_part(pdu),
     ];
-    put_words(out, &words)
+    put_parts(out, &line)
 }
 
 fn put_served<A: Allocator, B: Allocator + Clone>(

@@ -144,32 +144,41 @@ beyond k n = grind (arith, nat_tests)
 all_from : (n : ℕ) → range_contains nat_cmp (Included 0) Unbounded n ≡ true
 all_from n = grind (arith, nat_tests)
 
-next_is : (es : List (ℕ × Radio)) (after : Option ℕ) → past after ≤ 2 ^ 48 → AreInOrder es → option_map under_its_bits (first (from (past after) es)) ≡ next_entry (radios_of es) (option_map id_path after)
+next_is : (es : List (ℕ × Radio)) (after : Option ℕ) → past after ≤ 2 ^ 48 → AreInOrder es →
+    option_map under_its_bits (first (from (past after) es)) ≡ next_entry (radios_of es) (option_map id_path after)
 next_is es after small order = step es order.1 ∙ ap (find_first (is_after path_cmp (λ e. e.0) (option_map id_path after))) (sym (entries_of es order))
   where
-    same : (after : Option ℕ) (e : ℕ × Radio) → past after ≤ 2 ^ 48 → IsSmall e.0 → range_contains nat_cmp (Included (past after)) Unbounded e.0 ≡ is_after path_cmp (λ (e : Path × Radio). e.0) (option_map id_path after) (under_its_bits e)
+    same : (after : Option ℕ) (e : ℕ × Radio) → past after ≤ 2 ^ 48 → IsSmall e.0 →
+        range_contains nat_cmp (Included (past after)) Unbounded e.0 ≡ is_after path_cmp (λ (e : Path × Radio). e.0) (option_map id_path after)
+        (under_its_bits e)
     same None e small e_small = all_from e.0
     same (Some k) e small e_small = let k_small : IsSmall k = omega (arith, small) in beyond k e.0 ∙ ap is_lt (sym (ordered k e.0 k_small e_small))
 
-    by : (b : Bool) (e : ℕ × Radio) (rest : List (ℕ × Radio)) (o : Option (Path × Radio)) → option_map under_its_bits (first rest) ≡ o → option_map under_its_bits (first (cond b (e ∷ rest) rest)) ≡ cond b (Some (under_its_bits e)) o
+    by : (b : Bool) (e : ℕ × Radio) (rest : List (ℕ × Radio)) (o : Option (Path × Radio)) → option_map under_its_bits (first rest) ≡ o →
+        option_map under_its_bits (first (cond b (e ∷ rest) rest)) ≡ cond b (Some (under_its_bits e)) o
     by true e rest o is = refl
     by false e rest o is = is
 
-    step : (es : List (ℕ × Radio)) → All IsSmall (keys_of es) → option_map under_its_bits (first (from (past after) es)) ≡ find_first (is_after path_cmp (λ e. e.0) (option_map id_path after)) (under_bits es)
+    step : (es : List (ℕ × Radio)) → All IsSmall (keys_of es) →
+        option_map under_its_bits (first (from (past after) es)) ≡ find_first (is_after path_cmp (λ e. e.0) (option_map id_path after))
+        (under_bits es)
     step [] all = refl
     step (e ∷ es) all =
         by (range_contains nat_cmp (Included (past after)) Unbounded e.0) e (from (past after) es) _ (step es (All-tail IsSmall e.0 (keys_of es) all))
-        ∙ ap (λ (b : Bool). cond b (Some (under_its_bits e)) (find_first (is_after path_cmp (λ e. e.0) (option_map id_path after)) (under_bits es))) (same after e small (All-head IsSmall e.0 (keys_of es) all))
+        ∙ ap (λ (b : Bool). cond b (Some (under_its_bits e)) (find_first (is_after path_cmp (λ e. e.0) (option_map id_path after)) (under_bits es)))
+        (same after e small (All-head IsSmall e.0 (keys_of es) all))
 
 -- the first of those from there on is the next, and where there are none there is no next
-pub next_there : (es rest : List (ℕ × Radio)) (m : PathMap Radio) (n k itsi : ℕ) (r : Radio) (after : Option ℕ) → radios_of es ≡ m → AreInOrder es → n ≡ past after → n ≤ 2 ^ 48 → from n es ≡ (k, r) ∷ rest → itsi ≡ k → Some (under_its_bits (itsi, r)) ≡ next_entry m (option_map id_path after)
+pub next_there : (es rest : List (ℕ × Radio)) (m : PathMap Radio) (n k itsi : ℕ) (r : Radio) (after : Option ℕ) → radios_of es ≡ m → AreInOrder es →
+    n ≡ past after → n ≤ 2 ^ 48 → from n es ≡ (k, r) ∷ rest → itsi ≡ k → Some (under_its_bits (itsi, r)) ≡ next_entry m (option_map id_path after)
 next_there es rest m n k itsi r after seen order at small is same =
     ap (λ l. Some (under_its_bits (l, r))) same
     ∙ sym (ap (λ l. option_map under_its_bits (first l)) (ap (λ l. from l es) (sym at) ∙ is))
     ∙ next_is es after (subst (λ l. l ≤ 2 ^ 48) at small) order
     ∙ ap (λ l. next_entry l (option_map id_path after)) seen
 
-pub no_next : (es : List (ℕ × Radio)) (m : PathMap Radio) (n : ℕ) (after : Option ℕ) → radios_of es ≡ m → AreInOrder es → n ≡ past after → n ≤ 2 ^ 48 → from n es ≡ [] → None ≡ next_entry m (option_map id_path after)
+pub no_next : (es : List (ℕ × Radio)) (m : PathMap Radio) (n : ℕ) (after : Option ℕ) → radios_of es ≡ m → AreInOrder es → n ≡ past after →
+    n ≤ 2 ^ 48 → from n es ≡ [] → None ≡ next_entry m (option_map id_path after)
 no_next es m n after seen order at small is =
     sym (ap (λ l. option_map under_its_bits (first l)) (ap (λ l. from l es) (sym at) ∙ is))
     ∙ next_is es after (subst (λ l. l ≤ 2 ^ 48) at small) order
@@ -199,7 +208,8 @@ last_in (e ∷ []) k r is = ap (λ o. Some (id_path (unwrap_or o e).0)) is
 last_in (e ∷ f ∷ es) k r is = last_in (f ∷ es) k r (one_fewer e f es ∙ is)
 
 -- the last entry has the last of the keys
-pub last_there : (es : List (ℕ × Radio)) (m : PathMap Radio) (k itsi : ℕ) (r : Radio) → radios_of es ≡ m → AreInOrder es → slice_get es (length es - 1) ≡ Some (k, r) → itsi ≡ k → Some (id_path itsi) ≡ last_or None (map.keys m)
+pub last_there : (es : List (ℕ × Radio)) (m : PathMap Radio) (k itsi : ℕ) (r : Radio) → radios_of es ≡ m → AreInOrder es →
+    slice_get es (length es - 1) ≡ Some (k, r) → itsi ≡ k → Some (id_path itsi) ≡ last_or None (map.keys m)
 last_there es m k itsi r seen order is same =
     ap (λ l. Some (id_path l)) same ∙ sym (last_in es k r is)
     ∙ ap (λ l. last_or None (each (λ (e : Path × Radio). e.0) l)) (sym (entries_of es order)) ∙ ap (λ l. last_or None (map.keys l)) seen
@@ -238,7 +248,8 @@ pub inserted_in : (m n : List (ℕ × Radio)) (a : PathMap Radio) (k itsi : ℕ)
     → radios_of n ≡ map.insert a (id_path itsi) v
 inserted_in m n a k itsi v seen order same small n_small new = inserted m n k v small order.1 n_small new ∙ (λ i. map.insert (seen i) (id_path (same i)) v)
 
-pub replaced_in : (m n : BTreeMap ℕ Radio) (a : PathMap Radio) (k itsi : ℕ) (there v : Radio) → radios_of m.entries ≡ a → AreInOrder m.entries → k ≡ itsi → k < 2 ^ 48 → Some there ≡ lookup (is_at (nat_cmp k)) m.entries
+pub replaced_in : (m n : BTreeMap ℕ Radio) (a : PathMap Radio) (k itsi : ℕ) (there v : Radio) → radios_of m.entries ≡ a → AreInOrder m.entries →
+    k ≡ itsi → k < 2 ^ 48 → Some there ≡ lookup (is_at (nat_cmp k)) m.entries
     → WritesThrough nat_cmp (nat_cmp k) m v n → radios_of n.entries ≡ map.insert a (id_path itsi) v
 replaced_in m n a k itsi there v seen order same small was written =
     inserted_in m.entries n.entries a k itsi v seen order same small (subst (All IsSmall) (sym written.1) order.1) (written.3 (subst IsSome was refl)).0
@@ -254,16 +265,19 @@ moved : (xs rest : List (ℕ × Radio)) (e : ℕ × Radio) → under_bits (xs ++
 moved [] rest e = refl
 moved (x ∷ xs) rest e = ap (λ (l : List (Path × Radio)). under_its_bits x ∷ l) (moved xs rest e)
 
-pub begun : (es before xs : List (ℕ × Radio)) (m : PathMap Radio) → radios_of es ≡ m → AreInOrder es → before ≡ es → xs ≡ [] → (under_bits xs ++ under_bits before ≡ map.entries m) × All (λ number. number < 2 ^ 48) (keys_of before)
+pub begun : (es before xs : List (ℕ × Radio)) (m : PathMap Radio) → radios_of es ≡ m → AreInOrder es → before ≡ es → xs ≡ [] →
+    (under_bits xs ++ under_bits before ≡ map.entries m) × All (λ number. number < 2 ^ 48) (keys_of before)
 begun es before xs m seen order is none =
     ((λ i. under_bits (none i) ++ under_bits (is i)) ∙ sym (entries_of es order) ∙ ap map.entries seen, subst (λ l. All IsSmall (keys_of l)) (sym is) order.1)
 
-pub one_more : (xs ys before rest : List (ℕ × Radio)) (k itsi : ℕ) (r : Radio) (es : List (Path × Radio)) → ys ≡ xs ++ (itsi, r) ∷ [] → itsi ≡ k → before ≡ (k, r) ∷ rest → under_bits xs ++ under_bits before ≡ es → under_bits ys ++ under_bits rest ≡ es
+pub one_more : (xs ys before rest : List (ℕ × Radio)) (k itsi : ℕ) (r : Radio) (es : List (Path × Radio)) → ys ≡ xs ++ (itsi, r) ∷ [] → itsi ≡ k →
+    before ≡ (k, r) ∷ rest → under_bits xs ++ under_bits before ≡ es → under_bits ys ++ under_bits rest ≡ es
 one_more xs ys before rest k itsi r es is same next was =
     ap (λ (l : List (ℕ × Radio)). under_bits l ++ under_bits rest) (is ∙ ap (λ l. xs ++ (l, r) ∷ []) same)
     ∙ moved xs rest (k, r) ∙ sym (ap (λ (l : List (ℕ × Radio)). under_bits xs ++ under_bits l) next) ∙ was
 
-pub rest_small : (before rest : List (ℕ × Radio)) (k : ℕ) (r : Radio) → before ≡ (k, r) ∷ rest → All (λ number. number < 2 ^ 48) (keys_of before) → (k < 2 ^ 48) × All (λ number. number < 2 ^ 48) (keys_of rest)
+pub rest_small : (before rest : List (ℕ × Radio)) (k : ℕ) (r : Radio) → before ≡ (k, r) ∷ rest → All (λ number. number < 2 ^ 48) (keys_of before) →
+    (k < 2 ^ 48) × All (λ number. number < 2 ^ 48) (keys_of rest)
 rest_small before rest k r is all =
     let here : All IsSmall (k ∷ keys_of rest) = subst (λ l. All IsSmall (keys_of l)) is all in
     (All-head IsSmall k (keys_of rest) here, All-tail IsSmall k (keys_of rest) here)

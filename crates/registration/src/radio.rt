@@ -3,7 +3,7 @@
 ghost use Rattle.std.specs.Prelude.{◌≡◌, IfOk, true};
 
 use crate::{LocationArea, Station};
-use prefix_tree::TryCopy;
+use base::TryCopy;
 use std::alloc::AllocError;
 
 /// Where a radio is, or was when it left.

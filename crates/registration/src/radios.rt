@@ -10,8 +10,8 @@ ghost use Rattle.registration.specs.Listed.{under_bits, under_its_bits};
 ghost use Rattle.registration.specs.Inside.Radios.{past};
 
 use crate::Radio;
+use base::TryCopy;
 use identity::Itsi;
-use prefix_tree::TryCopy;
 use std::alloc::{AllocError, Allocator};
 use std::collections::BTreeMap;
 use std::marker::Model;

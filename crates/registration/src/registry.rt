@@ -14,9 +14,10 @@ ghost use Rattle.registration.specs.declared.fault.RegFault.TheVariants.{NoMemor
 
 use crate::radios::Radios;
 use crate::{Limits, LocationArea, Radio, RegFault, Rule, Station};
+use base::TryCopy;
 use identity::{Itsi, Prefix};
 use mm_pdus::LocationUpdateType;
-use prefix_tree::{PrefixTree, TryCopy};
+use prefix_tree::PrefixTree;
 use std::alloc::{AllocError, Allocator};
 use std::marker::Model;
 
@@ -204,24 +205,8 @@ impl<A: Allocator + Clone> Registry<A> {
         }
     }
 
-    /// Why `locate` would refuse this location update, memory aside: `UnsupportedType`, `Migration`,
-    /// `UnknownIdentity`, `LaNotAllowed` and `Congestion`, in this order.
-    pub fn locate_refusal(
-        &self,
-        itsi: Itsi,
-        area: LocationArea,
-        update: LocationUpdateType,
-    ) -> Option<RegFault>
-        ensures { result ≡ locate_refusal self.now itsi area update }
-    {
-        if let Some(fault) = self.service_refusal(itsi, area, update) {
-            return Some(fault);
-        }
-        self.room_refusal(itsi)
-    }
-
-    /// Why this location update would be refused for any radio, known or new: the refusals of `locate_refusal` before
-    /// `Congestion`.
+    /// Why `locate` would refuse this location update for any radio, known or new: `UnsupportedType`, `Migration`,
+    /// `UnknownIdentity` and `LaNotAllowed`, in this order.
     pub fn service_refusal(
         &self,
         itsi: Itsi,
@@ -237,7 +222,7 @@ impl<A: Allocator + Clone> Registry<A> {
     }
 
     /// The radio is present at this station and location area from now on (clause 16.4, location
-    /// updating). The refusals are those of `locate_refusal`, and `NoMemory` for a new radio alone; a
+    /// updating). The refusals are those of `service_refusal`, then `Congestion`, and `NoMemory` for a new radio alone; a
     /// refusal changes nothing.
     pub fn locate(
         &mut self,
@@ -357,16 +342,6 @@ impl<A: Allocator + Clone> Registry<A> {
         };
         let _ = self.radios.replace(itsi, absent);
         Ok(())
-    }
-
-    fn room_refusal(&self, itsi: Itsi) -> Option<RegFault>
-        ensures { result ≡ room_refusal self.now itsi }
-    {
-        if self.has_room() || self.where_is(itsi).is_some() {
-            None
-        } else {
-            Some(RegFault::Congestion)
-        }
     }
 
     // Whether one more radio may be known.

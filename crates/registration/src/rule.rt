@@ -3,8 +3,8 @@
 ghost use Rattle.std.specs.Prelude.{◌≡◌, ◌≤◌, ◌↔◌, IsSome, IfSome};
 
 use crate::LocationArea;
+use base::TryCopy;
 use mm_pdus::Lifetime;
-use prefix_tree::TryCopy;
 use std::alloc::AllocError;
 use std::marker::Model;
 

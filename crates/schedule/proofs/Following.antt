@@ -47,7 +47,8 @@ module _ {A : Type 0} where
       let rest = merged_same xs ys cc in
       λ i. line (first i) y.seen ∷ rest i
 
-  put_merged : (xs ys : List (Line A)) (k : ℕ) (c : Command A) → set (merged xs ys) k (with_first c (get_or (merged xs ys) k (line [] 0))) ≡ merged (set xs k (with_first c (get_or xs k (line [] 0)))) ys
+  put_merged : (xs ys : List (Line A)) (k : ℕ) (c : Command A) → set (merged xs ys) k (with_first c (get_or (merged xs ys) k (line [] 0))) ≡ merged
+      (set xs k (with_first c (get_or xs k (line [] 0)))) ys
   put_merged [] ys k c = refl
   put_merged (x ∷ xs) [] zero c = refl
   put_merged (x ∷ xs) (y ∷ ys) zero c = refl

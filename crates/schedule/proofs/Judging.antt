@@ -27,14 +27,16 @@ module _ {A : Type 0} where
   )
 
   -- the command at i is judged
-  pub judged_more : (start s s' : State) (batch : List (Command A)) (i : ℕ) (c : Command A) (entries entries' : List (Entry A)) (news news' : List (Command A)) → i < length batch → c ≡ get_or batch i c
+  pub judged_more : (start s s' : State) (batch : List (Command A)) (i : ℕ) (c : Command A) (entries entries' : List (Entry A))
+      (news news' : List (Command A)) → i < length batch → c ≡ get_or batch i c
       → AreJudged start batch s entries news (drop i batch) → entries' ≡ entries ++ (c, reply_to s c) ∷ [] → news' ≡ news ++ accepted_of ((c, reply_to s c) ∷ []) → s' ≡ next s c
       → AreJudged start batch s' entries' news' (drop (i + 1) batch)
   judged_more start s s' batch i c entries entries' news news' lt is h answer_from new goes =
       let e : drop i batch ≡ c ∷ drop (i + 1) batch = subst (λ y. drop i batch ≡ y ∷ drop (i + 1) batch) (sym is) (drop_more batch i c lt) in
       let m = one_more start s batch (drop (i + 1) batch) c entries news (subst (λ l. AreJudged start batch s entries news l) e h) in
       subst (λ t. AreJudged start batch t entries' news' (drop (i + 1) batch)) (sym goes)
-      (subst (λ t. AreJudged start batch (next s c) t news' (drop (i + 1) batch)) (sym answer_from) (subst (λ t. AreJudged start batch (next s c) (entries ++ (c, reply_to s c) ∷ []) t (drop (i + 1) batch)) (sym new) m))
+      (subst (λ t. AreJudged start batch (next s c) t news' (drop (i + 1) batch)) (sym answer_from)
+      (subst (λ t. AreJudged start batch (next s c) (entries ++ (c, reply_to s c) ∷ []) t (drop (i + 1) batch)) (sym new) m))
 
   -- after the last one all is judged
   pub judged_all : (start s : State) (batch : List (Command A)) (i : ℕ) (entries : List (Entry A)) (news : List (Command A)) → length batch ≤ i → AreJudged start batch s entries news (drop i batch)

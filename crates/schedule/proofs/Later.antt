@@ -1,7 +1,7 @@
 -- What a later world keeps of an earlier one.
 use Rattle.std.specs.Prelude.{◌==◌}
-use Rattle.std.proofs.Common.{◌≡◌, ℕ, zero, suc, ◌≤◌, false, List, [], ◌∷◌, ◌++◌, length, take, drop, refl, ap, sym, ◌∙◌, subst, arith, true≢false, append_assoc}
-use Rattle.std.proofs.lemmas.List.{take-append-le, take_at, append-nil, take-append-drop, length-take-le}
+use Rattle.std.proofs.Common.{◌≡◌, ℕ, zero, suc, ◌≤◌, false, List, [], ◌∷◌, ◌++◌, length, take, refl, ap, sym, ◌∙◌, subst, arith, true≢false, append_assoc}
+use Rattle.std.proofs.lemmas.List.{take-append-le, take_at, append-nil, length-take-le}
 use Rattle.centre_core.specs.declared.command.Command.{Command}
 use Rattle.centre_core.specs.State.{State}
 use Rattle.centre_core.specs.History.{after}
@@ -27,9 +27,6 @@ module _ {A : Type 0} where
   take_begins (suc m) zero xs le = absurd (omega arith)
   take_begins (suc m) (suc n) [] le = ([], refl)
   take_begins (suc m) (suc n) (x ∷ xs) le = let r = take_begins m n xs (omega arith) in (r.0, ap (λ t. x ∷ t) r.1)
-
-  take_in : (m : ℕ) (xs : List (Command A)) → IsBeginning (take m xs) xs
-  take_in m xs = (drop m xs, sym (take-append-drop m xs))
 
   -- from w to w' what is durable, published and answered stays
   pub record Grows (w w' : World A) : Type 0 where

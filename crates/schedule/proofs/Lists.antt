@@ -1,24 +1,13 @@
 -- Lists, lines and tests.
-use Rattle.std.specs.Prelude.{get_or, set, not, nat_lt, nat_le, slice_get, Some}
+use Rattle.std.specs.Prelude.{get_or, set, nat_lt, nat_le, slice_get, Some}
 use Rattle.std.specs.List.{AllByRecursion}
 use Rattle.std.proofs.lemmas.Bool.Decides.{nat_tests}
-use Rattle.std.proofs.Common.{◌≡◌, ℕ, zero, suc, ◌<◌, ◌≤◌, ◌⊎◌, inl, inr, Bool, true, false, ◌&&◌, List, [], ◌∷◌, ◌++◌, length, refl, ap, sym, ◌∙◌, arith, true≢false, append_assoc}
+use Rattle.std.proofs.Common.{◌≡◌, ℕ, zero, suc, ◌<◌, ◌≤◌, ◌⊎◌, inl, inr, Bool, true, false, List, [], ◌∷◌, ◌++◌, length, refl, ap, sym, ◌∙◌, arith, true≢false, append_assoc}
 use Rattle.std.proofs.lemmas.List.{append-nil}
+use Rattle.base.proofs.Bools.{both_true}
 use Rattle.centre_core.specs.declared.command.Command.{Command}
 use Rattle.schedule.specs.World.{Line, line, line_of, with_line}
 use Rattle.schedule.specs.Next.{is_place, cut, all_of, emptied, unread}
-
-pub both : (a b : Bool) → (a && b) ≡ true → (a ≡ true) × (b ≡ true)
-both true b e = (refl, e)
-both false b e = absurd (true≢false (sym e))
-
-pub not_true : (b : Bool) → not b ≡ true → b ≡ false
-not_true true e = absurd (true≢false (sym e))
-not_true false e = refl
-
-pub and_both : (a b : Bool) → a ≡ true → b ≡ true → (a && b) ≡ true
-and_both true b e f = f
-and_both false b e f = absurd (true≢false (sym e))
 
 pub get_last : {X : Type 0} (xs : List X) (x : X) → slice_get (xs ++ x ∷ []) (length xs) ≡ Some x
 get_last [] x = refl
@@ -27,16 +16,9 @@ get_last (y ∷ ys) x = get_last ys x
 pub opposed : (b : Bool) → b ≡ false → b ≡ true → ⊥
 opposed b e f = true≢false (sym f ∙ e)
 
-pub all-append : {A : Type 0} (P : A → Type 0) → (xs ys : List A) → AllByRecursion P xs → AllByRecursion P ys → AllByRecursion P (xs ++ ys)
-all-append P [] ys h k = k
-all-append P (x ∷ xs) ys h k = (h.0, all-append P xs ys h.1 k)
-
 pub all_by : {A : Type 0} (P Q : A → Type 0) → ((x : A) → P x → Q x) → (xs : List A) → AllByRecursion P xs → AllByRecursion Q xs
 all_by P Q f [] h = tt
 all_by P Q f (x ∷ xs) h = (f x h.0, all_by P Q f xs h.1)
-
-pub le_from : (a b : ℕ) → nat_le a b ≡ true → a ≤ b
-le_from a b e = grind (arith, nat_tests)
 
 module _ {A : Type 0} where
   pub put_cases : (xs : List (Line A)) (i j : ℕ) (x : Line A) → ((get_or (set xs i x) j (line [] 0) ≡ x) × (j ≡ i)) ⊎ (get_or (set xs i x) j (line [] 0) ≡ get_or xs j (line [] 0))
@@ -58,13 +40,10 @@ module _ {A : Type 0} where
   put_same (y ∷ ys) (suc i) x h = put_same ys i x (omega arith)
 
   pub line_same : (xs : List (Line A)) (s : ℕ) (x : Line A) → is_place xs s ≡ true → line_of (with_line xs s x) s ≡ x
-  line_same xs zero x h = let e = (both (nat_lt 0 0) (nat_le 0 (length xs)) h).0 in absurd (true≢false (sym e))
+  line_same xs zero x h = let e = (both_true (nat_lt 0 0) (nat_le 0 (length xs)) h).0 in absurd (true≢false (sym e))
   line_same xs (suc i) x h =
-      let e : nat_le (suc i) (length xs) ≡ true = (both (nat_lt 0 (suc i)) (nat_le (suc i) (length xs)) h).1 in
+      let e : nat_le (suc i) (length xs) ≡ true = (both_true (nat_lt 0 (suc i)) (nat_le (suc i) (length xs)) h).1 in
       put_same xs i x (let le : suc i ≤ length xs = grind (arith, nat_tests) in omega arith)
-
-  put_other : (xs : List (Line A)) (i j : ℕ) (x : Line A) → (i ≡ j → ⊥) → get_or (set xs i x) j (line [] 0) ≡ get_or xs j (line [] 0)
-  put_other xs i j x h = elim (put_cases xs i j x) [ inl q ↦ absurd (h (sym q.1)) | inr q ↦ q ]
 
   pub line_other : (xs : List (Line A)) (s t : ℕ) (x : Line A) → (s ≡ t → ⊥) → line_of (with_line xs s x) t ≡ line_of xs t
   line_other xs s t x h = elim (line_put xs s t x) [ inl q ↦ absurd (h (sym q.1)) | inr q ↦ q ]

@@ -36,7 +36,8 @@ module _ {A : Type 0} where
   placed_from [] s n i e = absurd cc
   placed_from (x ∷ xs) s n i e = placed_by (of_station s x) x xs s n i e (λ h. placed_from xs s (n + 1) i h)
 
-  absent_by : (b : Bool) (x : Entry A) (xs : List (Entry A)) (s n : ℕ) → cond b (Some n) (position_from (of_station s) (n + 1) xs) ≡ None → (position_from (of_station s) (n + 1) xs ≡ None → first_of s xs ≡ [])
+  absent_by : (b : Bool) (x : Entry A) (xs : List (Entry A)) (s n : ℕ) → cond b (Some n) (position_from (of_station s) (n + 1) xs) ≡ None →
+      (position_from (of_station s) (n + 1) xs ≡ None → first_of s xs ≡ [])
       → cond b (x ∷ []) (first_of s xs) ≡ []
   absent_by true x xs s n e more = absurd cc
   absent_by false x xs s n e more = more e
@@ -47,7 +48,8 @@ module _ {A : Type 0} where
 
   -- a place, if there is one, is that of the station's first entry
   pub placed : (xs : List (Entry A)) (s : ℕ) (r : Option ℕ) → r ≡ position (λ (x : Entry A). x.0.station == s) xs
-      → MatchOption r (first_of s xs ≡ []) (λ i. (i < length xs) × (without_first s xs ≡ take i xs ++ drop (i + 1) xs) × ((d : Entry A) → first_of s xs ≡ slice_index_or xs i d ∷ []) × (is_empty (first_of s xs) ≡ false))
+      → MatchOption r (first_of s xs ≡ []) (λ i. (i < length xs) × (without_first s xs ≡ take i xs ++ drop (i + 1) xs) ×
+      ((d : Entry A) → first_of s xs ≡ slice_index_or xs i d ∷ []) × (is_empty (first_of s xs) ≡ false))
   placed xs s None e = absent_from xs s 0 (sym (e ∙ position_from-zero (of_station s) xs))
   placed xs s (Some i) e =
       let h = placed_from xs s 0 i (sym (e ∙ position_from-zero (of_station s) xs)) in

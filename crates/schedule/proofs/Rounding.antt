@@ -1,9 +1,10 @@
 -- A round goes by a run.
 use Rattle.std.specs.Prelude.{Some, None, not, nat_lt, nat_le, is_none, get_or, set, take, ◌==◌}
 use Rattle.std.specs.List.{AllByRecursion}
-use Rattle.std.proofs.lemmas.Bool.Decides.{nat_tests}
 use Rattle.std.proofs.Common.{◌≡◌, ℕ, zero, suc, ◌+◌, ◌<◌, ◌≤◌, Bool, true, false, cond, ◌&&◌, List, [], ◌∷◌, ◌++◌, length, drop, refl, ap, sym, ◌∙◌, subst, arith, append_assoc, length-append}
 use Rattle.std.proofs.lemmas.List.{append-nil, length-set, set-set, set-get_or}
+use Rattle.base.proofs.Numbers.{test_by_less, test_by_same, test_by_le}
+use Rattle.base.proofs.Bools.{and_is_true}
 use Rattle.centre_core.specs.declared.command.Command.{Command}
 use Rattle.centre_core.specs.State.{State}
 use Rattle.centre_core.specs.History.{next, after}
@@ -12,18 +13,11 @@ use Rattle.schedule.specs.declared.event.Event.{Event}
 use Rattle.schedule.specs.declared.event.Event.TheVariants.{Seal, CommitBegin, CommitEnd, Answer, CheckpointBegin, Crash}
 use Rattle.schedule.specs.World.{World, Line, line, line_of, with_line, Entry}
 use Rattle.schedule.specs.Next.{is_still, is_empty, first_one, first_of, without_first, answered, seen_after, cut, emptied, Next, Run}
-use Rattle.schedule.specs.Rounds.{Round, at, fed, queues, AreOf, Goes, GoesDown, IsIdle, seals, answers_to, room_if, move_if, give_up, under_way, left_under_way, publish_if, events_of, accepted_after, after_commit, after_round, after_idle_round, records_after, after_stop, stopped_commit, stopped_checkpoint, RoundsRun, IdleRoundsRun, CrashedRoundsRun, CrashedCheckpointsRun}
+use Rattle.schedule.specs.Rounds.{Round, at, fed, queues, AreOf, Goes, GoesDown, IsIdle, seals, answers_to, room_if, move_if, give_up, under_way}
+use Rattle.schedule.specs.Rounds.{left_under_way, publish_if, events_of, accepted_after, after_commit, after_round, after_idle_round, records_after}
+use Rattle.schedule.specs.Rounds.{after_stop, stopped_commit, stopped_checkpoint, RoundsRun, IdleRoundsRun, CrashedRoundsRun, CrashedCheckpointsRun}
 use Rattle.schedule.specs.RoundParts.{batched, owing, answering, answer_events, AreEntriesOf, SealsRun, AnswersRun}
-use Rattle.schedule.proofs.Lists.{and_both, line_same}
-
-less_test : (a b : ℕ) → a < b → nat_lt a b ≡ true
-less_test a b h = grind (arith, nat_tests)
-
-same_test : (a b : ℕ) → a ≡ b → (a == b) ≡ true
-same_test a b h = grind (arith, nat_tests)
-
-le_test : (a b : ℕ) → a ≤ b → nat_le a b ≡ true
-le_test a b h = grind (arith, nat_tests)
+use Rattle.schedule.proofs.Lists.{line_same}
 
 module _ {A : Type 0} where
   pub run-append : (base : State) (es fs : List (Event A)) (w m w' : World A) → Run base w es m → Run base m fs w' → Run base w (es ++ fs) w'
@@ -56,7 +50,8 @@ module _ {A : Type 0} where
   length-fed [] xs = refl
   length-fed (c ∷ cs) xs = length-with (fed cs xs) c.station (line (c ∷ (line_of (fed cs xs) c.station).queue) (line_of (fed cs xs) c.station).seen) ∙ length-fed cs xs
 
-  seal_one : (base : State) (f : World A) (c : Command A) (ys : List (Line A)) → (nat_lt 0 c.station && nat_le c.station (length ys)) ≡ true → f.down ≡ false → f.in_flight ≡ None → f.owed ≡ [] → length f.batch < 64
+  seal_one : (base : State) (f : World A) (c : Command A) (ys : List (Line A)) → (nat_lt 0 c.station && nat_le c.station (length ys)) ≡ true →
+      f.down ≡ false → f.in_flight ≡ None → f.owed ≡ [] → length f.batch < 64
       → Next base (at f (with_line ys c.station (line (c ∷ (line_of ys c.station).queue) (line_of ys c.station).seen))) (Seal c.station) (at (batched f (c ∷ [])) ys)
   seal_one base f c ys here up none paid room =
       let s = c.station in
@@ -68,8 +63,8 @@ module _ {A : Type 0} where
       let calm : (not f.down && is_none f.in_flight) ≡ true = ap (λ b. not b && is_none f.in_flight) up ∙ ap (λ o. is_none o) none in
       let free : is_empty f.owed ≡ true = ap (λ (o : List (Entry A)). is_empty o) paid in
       let some : not (is_empty (line_of zs s).queue) ≡ true = ap (λ (x : Line A). not (is_empty x.queue)) is in
-      let less = less_test (length f.batch) 64 room in (
-        and_both _ _ inside (and_both _ _ calm (and_both _ _ free (and_both _ _ less some))),
+      let less = test_by_less (length f.batch) 64 room in (
+        and_is_true _ _ inside (and_is_true _ _ calm (and_is_true _ _ free (and_is_true _ _ less some))),
         sym (
             ap (λ (x : Line A). let r : World A = record f { lines = with_line zs s (line (drop 1 x.queue) x.seen); batch = f.batch ++ first_one x.queue } in r) is
             ∙ ap (λ (l : List (Line A)). let r : World A = record f { lines = l; batch = f.batch ++ c ∷ [] } in r) (with_with ys s full old ∙ with_same ys s)
@@ -95,20 +90,22 @@ module _ {A : Type 0} where
   answers_run base (v ∷ vs) f xs up h =
       let s = v.0.station in
       let all = f.published == f.durable in
-      let same = same_test s s refl in
+      let same = test_by_same s s refl in
       let one = answered all (v ∷ []) in
       let sight = seen_after (line_of xs s).seen f.published one in
       let ys = with_line xs s (line (line_of xs s).queue sight) in
       let g : World A = record f { answers = f.answers ++ one } in
-      let inside : AreEntriesOf ys vs = subst (λ n. AllByRecursion (λ (x : Entry A). (nat_lt 0 x.0.station && nat_le x.0.station n) ≡ true) vs) (sym (length-with xs s (line (line_of xs s).queue sight))) h.1 in
+      let inside : AreEntriesOf ys vs = subst (λ n. AllByRecursion (λ (x : Entry A). (nat_lt 0 x.0.station && nat_le x.0.station n) ≡ true) vs)
+      (sym (length-with xs s (line (line_of xs s).queue sight))) h.1 in
       let rest = answers_run base vs g ys up inside in
-      let end : at (answering g vs) rest.0 ≡ at (answering f (v ∷ vs)) rest.0 = ap (λ a. let r : World A = record f { lines = rest.0; owed = []; answers = a } in r) (append_assoc f.answers one (answered all vs)) in (
+      let end : at (answering g vs) rest.0 ≡ at (answering f (v ∷ vs)) rest.0 =
+      ap (λ a. let r : World A = record f { lines = rest.0; owed = []; answers = a } in r) (append_assoc f.answers one (answered all vs)) in (
         rest.0,
         rest.1 ∙ kept_queues xs s sight,
         (
           at (owing g vs) ys,
           (
-            and_both _ _ h.0 (and_both _ _ (ap (λ b. not b) up) (ap (λ b. not (is_empty (cond b (v ∷ []) (first_of s vs)))) same)),
+            and_is_true _ _ h.0 (and_is_true _ _ (ap (λ b. not b) up) (ap (λ b. not (is_empty (cond b (v ∷ []) (first_of s vs)))) same)),
             sym (ap (λ b. let r : World A = record f {
               lines = with_line xs s (line (line_of xs s).queue (seen_after (line_of xs s).seen f.published (answered all (cond b (v ∷ []) (first_of s vs)))));
               owed = cond b vs (v ∷ without_first s vs);
@@ -128,16 +125,16 @@ module _ {A : Type 0} where
   room_run base checking false w still is = λ i. record w { checking = sym is i }
   room_run base false true w still is =
       let begun : World A = record w { checking = true } in
-      (begun, (and_both _ _ still (ap (λ b. not b) is), refl), (record w { checking = false }, (refl, refl), refl))
+      (begun, (and_is_true _ _ still (ap (λ b. not b) is), refl), (record w { checking = false }, (refl, refl), refl))
   room_run base true true w still is =
       let given_up : World A = record w { checking = false } in
       let begun : World A = record w { checking = true } in
-      (given_up, (is, refl), (begun, (and_both _ _ still refl, refl), (given_up, (refl, refl), refl)))
+      (given_up, (is, refl), (begun, (and_is_true _ _ still refl, refl), (given_up, (refl, refl), refl)))
 
   -- one that begins or ends after the commit
   move_run : (base : State) (checking moved : Bool) (w : World A) → is_still w ≡ true → w.checking ≡ checking → Run base w (move_if checking moved) (record w { checking = under_way checking moved })
   move_run base checking false w still is = λ i. record w { checking = sym is i }
-  move_run base false true w still is = (record w { checking = true }, (and_both _ _ still (ap (λ b. not b) is), refl), refl)
+  move_run base false true w still is = (record w { checking = true }, (and_is_true _ _ still (ap (λ b. not b) is), refl), refl)
   move_run base true true w still is = (record w { checking = false }, (is, refl), refl)
 
   publish_run : (base : State) (shown : Bool) (w : World A) → is_still w ≡ true → Run base w (publish_if shown) (record w { published = cond shown w.durable w.published })
@@ -148,7 +145,8 @@ module _ {A : Type 0} where
   resting f = record f { down = false; in_flight = None; batch = []; owed = [] }
 
   -- from the begin of its commit to the end, with what was popped in the batch
-  commit_run : (base : State) (f : World A) (how : Round) (c : Command A) (cs : List (Command A)) (xs : List (Line A)) → AreOf xs (c ∷ cs) → let r : World A = record (resting f) { published = f.durable } in (later : List (Line A)) × (queues later ≡ queues xs)
+  commit_run : (base : State) (f : World A) (how : Round) (c : Command A) (cs : List (Command A)) (xs : List (Line A)) → AreOf xs (c ∷ cs) →
+      let r : World A = record (resting f) { published = f.durable } in (later : List (Line A)) × (queues later ≡ queues xs)
       × Run base (at (batched r (c ∷ cs)) xs) (CommitBegin ∷ CommitEnd ∷ move_if f.checking how.moved ++ (publish_if how.shown ++ answers_to (c ∷ cs))) (at (after_commit base r (c ∷ cs) how) later)
   commit_run base f how c cs xs h =
       let ps = c ∷ cs in
@@ -161,19 +159,23 @@ module _ {A : Type 0} where
       let went : World A = record ended { checking = under_way f.checking how.moved } in
       let open' : World A = record r { accepted = log; durable = length log; published = cond how.shown (length log) f.durable; checking = under_way f.checking how.moved } in
       let last = answers_run base vs open' xs refl (of_replies xs ps s h) in
-      let answer_from : Run base (at (owing open' vs) xs) (answers_to ps) (at (after_commit base r ps how) last.0) = subst (λ es. Run base (at (owing open' vs) xs) es (at (after_commit base r ps how) last.0)) (same_answer_events s ps) last.2 in
+      let answer_from : Run base (at (owing open' vs) xs) (answers_to ps) (at (after_commit base r ps how) last.0) =
+      subst (λ es. Run base (at (owing open' vs) xs) es (at (after_commit base r ps how) last.0)) (same_answer_events s ps) last.2 in
       let shown = run-append base (publish_if how.shown) (answers_to ps) (at went xs) (at (owing open' vs) xs) _ (publish_run base how.shown (at went xs) refl) answer_from in
-      let moved = run-append base (move_if f.checking how.moved) (publish_if how.shown ++ answers_to ps) (at ended xs) (at went xs) _ (move_run base f.checking how.moved (at ended xs) refl refl) shown in
-      (last.0, last.1, (at begun xs, (same_test f.durable f.durable refl, refl), (at ended xs, (refl, refl), moved)))
+      let moved = run-append base (move_if f.checking how.moved) (publish_if how.shown ++ answers_to ps) (at ended xs) (at went xs) _
+      (move_run base f.checking how.moved (at ended xs) refl refl) shown in
+      (last.0, last.1, (at begun xs, (test_by_same f.durable f.durable refl, refl), (at ended xs, (refl, refl), moved)))
 
-  round_goes : (base : State) (f : World A) (how : Round) (c : Command A) (cs : List (Command A)) → length (c ∷ cs) ≤ 64 → Goes base (c ∷ cs) (events_of f.checking how (c ∷ cs)) (resting f) (after_round base (resting f) (c ∷ cs) how)
+  round_goes : (base : State) (f : World A) (how : Round) (c : Command A) (cs : List (Command A)) → length (c ∷ cs) ≤ 64 →
+      Goes base (c ∷ cs) (events_of f.checking how (c ∷ cs)) (resting f) (after_round base (resting f) (c ∷ cs) how)
   round_goes base f how c cs small xs h =
       let ps = c ∷ cs in
       let fits : 0 + length ps ≤ 64 = omega arith in
       let r : World A = record (resting f) { published = f.durable } in
       let left : World A = record r { checking = left_under_way f.checking how } in
       let commit = commit_run base (record f { checking = left_under_way f.checking how }) how c cs xs h in
-      let room = run-append base (room_if f.checking how.made_room) _ (at (batched r ps) xs) (at (batched left ps) xs) _ (room_run base f.checking how.made_room (at (batched r ps) xs) refl refl) commit.2 in
+      let room = run-append base (room_if f.checking how.made_room) _ (at (batched r ps) xs) (at (batched left ps) xs) _
+      (room_run base f.checking how.made_room (at (batched r ps) xs) refl refl) commit.2 in
       let sealed = run-append base (seals ps) _ (at r (fed ps xs)) (at (batched r ps) xs) _ (seals_run base ps r xs h refl refl refl fits) room in
       (commit.0, commit.1, (at r (fed ps xs), (refl, refl), sealed))
 
@@ -200,7 +202,7 @@ module _ {A : Type 0} where
       let r : World A = record (resting f) { published = f.durable } in
       let begun : World A = record r { batch = ps; accepted = f.accepted ++ taken s ps; in_flight = Some (with_replies A s ps) } in
       let stopped = after_stop r (accepted_after base f ps) (take count (records_after base f ps)) in
-      (at begun xs, (same_test f.durable f.durable refl, refl), (at stopped (emptied xs), (le_test count (length (cut (taken s ps))) few, refl), refl))
+      (at begun xs, (test_by_same f.durable f.durable refl, refl), (at stopped (emptied xs), (test_by_le count (length (cut (taken s ps))) few, refl), refl))
 
   crash_goes : (base : State) (f : World A) (made_room : Bool) (c : Command A) (cs : List (Command A)) (count : ℕ) → length (c ∷ cs) ≤ 64 → count ≤ length (records_after base f (c ∷ cs))
       → GoesDown base (c ∷ cs) (stopped_commit f.checking made_room (c ∷ cs) count) (resting f) (after_stop (resting f) (accepted_after base f (c ∷ cs)) (take count (records_after base f (c ∷ cs))))
@@ -217,7 +219,8 @@ module _ {A : Type 0} where
 
   pub crashed_rounds_run : CrashedRoundsRun A
   crashed_rounds_run base f made_room c cs count h small few =
-      subst (λ (g : World A). GoesDown base (c ∷ cs) (stopped_commit g.checking made_room (c ∷ cs) count) g (after_stop g (accepted_after base g (c ∷ cs)) (take count (records_after base g (c ∷ cs))))) (is_resting f h)
+      subst (λ (g : World A). GoesDown base (c ∷ cs) (stopped_commit g.checking made_room (c ∷ cs) count) g
+      (after_stop g (accepted_after base g (c ∷ cs)) (take count (records_after base g (c ∷ cs))))) (is_resting f h)
       (crash_goes base f made_room c cs count small few)
 
   -- a checkpoint that is under way is given up, and another one stops

@@ -5,6 +5,8 @@ use Rattle.std.proofs.lemmas.Bool.Decides.{nat_tests}
 use Rattle.std.proofs.lemmas.List.Elements.{All-from_recursion}
 use Rattle.std.proofs.Common.{◌≡◌, ℕ, ◌≤◌, ◌⊎◌, inl, inr, Bool, true, false, cond, ◌&&◌, List, [], ◌∷◌, ◌++◌, length, take, drop, refl, ap, sym, ◌∙◌, subst, arith, true≢false, append_assoc}
 use Rattle.std.proofs.lemmas.List.{take-append-le, append-nil, take-take, length-take-le}
+use Rattle.base.proofs.Bools.{both_true, not_true}
+use Rattle.base.proofs.Numbers.{same_by_test}
 use Rattle.centre_core.specs.declared.command.Command.{Command}
 use Rattle.centre_core.specs.State.{State}
 use Rattle.schedule.specs.declared.event.Event.{Event}
@@ -13,12 +15,9 @@ use Rattle.schedule.specs.World.{World, Line, line, line_of, with_line, queue_of
 use Rattle.schedule.specs.Next.{is_place, is_empty, first_one, first_of, answered, seen_after, is_station, is_still, may, effect, Next, Run}
 use Rattle.schedule.specs.Clauses.{IsBeginning, IsBorneOut, IsWithin, seen_by, is_reopen, submitted_by, submitted, sealed_by, sealed, IsOneLife, IsFresh}
 use Rattle.schedule.specs.Laws.{ReadsGrow, ReadsHoldAnswers}
-use Rattle.schedule.proofs.Lists.{both, not_true, opposed, line_put, line_same, line_other, unread_line}
+use Rattle.schedule.proofs.Lists.{opposed, line_put, line_same, line_other, unread_line}
 use Rattle.schedule.proofs.Soundness.{reached, run_is_sound, next_is_sound, opening_line, all_whole, all_within}
 use Rattle.schedule.proofs.Later.{run_grows, take_begins}
-
-same_station : (s t : ℕ) → (s == t) ≡ true → s ≡ t
-same_station s t e = grind (arith, nat_tests)
 
 other_station : (s t : ℕ) → (s == t) ≡ false → s ≡ t → ⊥
 other_station s t e f = grind (arith, nat_tests)
@@ -32,7 +31,7 @@ module _ {A : Type 0} where
       → (line_of xs t).queue ++ cond b (c ∷ []) [] ≡ (line_of (with_line xs s (line ((line_of xs s).queue ++ c ∷ []) v)) t).queue
   submit_by xs s t c v true e h =
       let new = line ((line_of xs s).queue ++ c ∷ []) v in
-      let same = same_station s t e in
+      let same = same_by_test s t e in
       subst (λ u. (line_of xs u).queue ++ c ∷ [] ≡ (line_of (with_line xs s new) u).queue) same (sym (ap (λ (x : Line A). x.queue) (line_same xs s new h)))
   submit_by xs s t c v false e h =
       let new = line ((line_of xs s).queue ++ c ∷ []) v in
@@ -42,8 +41,9 @@ module _ {A : Type 0} where
       → (line_of xs t).queue ≡ cond b (first_one (line_of xs s).queue) [] ++ (line_of (with_line xs s (line (drop 1 (line_of xs s).queue) v)) t).queue
   seal_by xs s t v true e h =
       let new = line (drop 1 (line_of xs s).queue) v in
-      let same = same_station s t e in
-      subst (λ u. (line_of xs u).queue ≡ first_one (line_of xs s).queue ++ (line_of (with_line xs s new) u).queue) same (sym (ap (λ (x : Line A). first_one (line_of xs s).queue ++ x.queue) (line_same xs s new h) ∙ first_one_rest (line_of xs s).queue))
+      let same = same_by_test s t e in
+      subst (λ u. (line_of xs u).queue ≡ first_one (line_of xs s).queue ++ (line_of (with_line xs s new) u).queue) same
+      (sym (ap (λ (x : Line A). first_one (line_of xs s).queue ++ x.queue) (line_same xs s new h) ∙ first_one_rest (line_of xs s).queue))
   seal_by xs s t v false e h =
       let new = line (drop 1 (line_of xs s).queue) v in sym (ap (λ (x : Line A). x.queue) (line_other xs s t new (other_station s t e)))
 
@@ -58,9 +58,9 @@ module _ {A : Type 0} where
   fallen : (base : State) (t : ℕ) (w : World A) (e : Event A) → w.down ≡ true → may w e ≡ true → is_reopen e ≡ false → (sealed_by t w e ≡ []) × ((effect base w e).down ≡ true)
   fallen base t w (Submit s c) d ok r = (refl, d)
   fallen base t w (Seal s) d ok r =
-      let rest = (both (is_station w s) (is_still w && (is_empty w.owed && (nat_lt (length w.batch) 64 && not (is_empty (queue_of w s))))) ok).1 in
-      let up = (both (is_still w) (is_empty w.owed && (nat_lt (length w.batch) 64 && not (is_empty (queue_of w s)))) rest).0 in
-      absurd (opposed w.down (not_true w.down (both (not w.down) _ up).0) d)
+      let rest = (both_true (is_station w s) (is_still w && (is_empty w.owed && (nat_lt (length w.batch) 64 && not (is_empty (queue_of w s))))) ok).1 in
+      let up = (both_true (is_still w) (is_empty w.owed && (nat_lt (length w.batch) 64 && not (is_empty (queue_of w s)))) rest).0 in
+      absurd (opposed w.down (not_true w.down (both_true (not w.down) _ up).0) d)
   fallen base t w CommitBegin d ok r = (refl, d)
   fallen base t w CommitEnd d ok r = (refl, d)
   fallen base t w Publish d ok r = (refl, d)
@@ -85,9 +85,11 @@ module _ {A : Type 0} where
   drains : (base : State) (t : ℕ) (w : World A) (e : Event A) → may w e ≡ true → is_reopen e ≡ false
       → (queue_of w t ++ submitted_by t e ≡ sealed_by t w e ++ queue_of (effect base w e) t) ⊎ ((sealed_by t w e ≡ []) × ((effect base w e).down ≡ true))
   drains base t w (Submit s c) ok r =
-      inl (submit_by w.lines s t c (seen_of w s) (s == t) refl (both (is_station w s) (not w.down && (c.station == s)) ok).0)
+      inl (submit_by w.lines s t c (seen_of w s) (s == t) refl (both_true (is_station w s) (not w.down && (c.station == s)) ok).0)
   drains base t w (Seal s) ok r =
-      inl (append-nil (queue_of w t) ∙ seal_by w.lines s t (seen_of w s) (s == t) refl (both (is_station w s) (is_still w && (is_empty w.owed && (nat_lt (length w.batch) 64 && not (is_empty (queue_of w s))))) ok).0)
+      inl (append-nil (queue_of w t) ∙
+      seal_by w.lines s t (seen_of w s) (s == t) refl
+      (both_true (is_station w s) (is_still w && (is_empty w.owed && (nat_lt (length w.batch) 64 && not (is_empty (queue_of w s))))) ok).0)
   drains base t w CommitBegin ok r = inl (append-nil (queue_of w t))
   drains base t w CommitEnd ok r = inl (append-nil (queue_of w t))
   drains base t w Publish ok r = inl (append-nil (queue_of w t))
@@ -132,7 +134,8 @@ module _ {A : Type 0} where
             ap (λ (x : World A). queue_of x t) h.2.1 ∙ ((unread_line h.0.lines t).1 ∙ (reached base n e.0 h.0 h.1).quiet h.2.0 t)
       ]
 
-  pub sealed_begins : (base : State) (n : ℕ) (es fs : List (Event A)) (w w' : World A) (t : ℕ) → Run base (opening n) es w → IsFresh es → Run base w fs w' → IsOneLife fs → IsBeginning (sealed base t w fs) (submitted t fs)
+  pub sealed_begins : (base : State) (n : ℕ) (es fs : List (Event A)) (w w' : World A) (t : ℕ) → Run base (opening n) es w → IsFresh es →
+      Run base w fs w' → IsOneLife fs → IsBeginning (sealed base t w fs) (submitted t fs)
   sealed_begins base n es fs w w' t r fresh s life =
       let h = all_drains base t fs w w' life s in
       (h.0, ap (λ x. x ++ submitted t fs) (sym (fresh_queue base n es w r fresh t)) ∙ h.1)

@@ -2,15 +2,18 @@
 use Rattle.std.specs.Prelude.{replicate, get_or, Option, Some, None, not, nat_lt, is_none, ◌==◌}
 use Rattle.std.specs.List.{AllByRecursion}
 use Rattle.std.proofs.lemmas.Bool.Decides.{nat_tests}
-use Rattle.std.proofs.Common.{◌≡◌, ℕ, zero, suc, ◌<◌, ◌≤◌, inl, inr, Bool, true, false, cond, ◌&&◌, List, [], ◌∷◌, ◌++◌, length, take, drop, refl, ap, sym, ◌∙◌, subst, arith, true≢false, append_assoc, length-append, length-take}
+use Rattle.std.proofs.Common.{◌≡◌, ℕ, zero, suc, ◌<◌, ◌≤◌, inl, inr, Bool, true, false, cond, ◌&&◌, List, [], ◌∷◌, ◌++◌, length, take, drop, refl, ap}
+use Rattle.std.proofs.Common.{sym, ◌∙◌, subst, arith, true≢false, append_assoc, length-append, length-take}
 use Rattle.std.proofs.lemmas.List.{take-append-le, take_at, take_all, append-nil, take-append-drop, length-take-le}
+use Rattle.base.proofs.Bools.{both_true, not_true}
+use Rattle.base.proofs.Lists.{get_within, all_append}
 use Rattle.centre_core.specs.declared.command.Command.{Command}
 use Rattle.centre_core.specs.declared.reply.Reply.TheVariants.{Accepted, Kept, Refused}
 use Rattle.centre_core.specs.State.{State}
 use Rattle.centre_core.specs.History.{is_acceptance, after}
 use Rattle.centre_core.specs.Histories.{IsHistory}
 use Rattle.centre_core.specs.Batches.{taken, accepted_of}
-use Rattle.centre_core.proofs.InTurnLaws.{history-prefix, get_within}
+use Rattle.centre_core.proofs.InTurnLaws.{history-prefix}
 use Rattle.schedule.specs.declared.event.Event.{Event}
 use Rattle.schedule.specs.declared.event.Event.TheVariants.{Submit, Seal, CommitBegin, CommitEnd, Publish, Answer, Read, CheckpointBegin, CheckpointEnd, Crash, Reopen}
 use Rattle.schedule.specs.World.{World, Line, line, line_of, with_line, queue_of, seen_of, Entry, opening}
@@ -18,7 +21,7 @@ use Rattle.schedule.specs.Next.{all_of, cut, records_of, replies_of, is_empty, f
 use Rattle.schedule.specs.Clauses.{IsBeginning, IsBorneOut, IsWithin}
 use Rattle.schedule.specs.RoundParts.{OneIsBorneOut, AnsweredAreBorneOut}
 use Rattle.schedule.proofs.Stepping.{borne_more, batch_well}
-use Rattle.schedule.proofs.Lists.{both, not_true, opposed, line_put, emptied_queue, emptied_seen, unread_line, all_of-cut, all_of-append, all-append, all_by}
+use Rattle.schedule.proofs.Lists.{opposed, line_put, emptied_queue, emptied_seen, unread_line, all_of-cut, all_of-append, all_by}
 
 module _ {A : Type 0} where
   -- with nothing in_flight all that is accepted is durable; else the rest is what flies
@@ -38,7 +41,7 @@ module _ {A : Type 0} where
     pub sight : (t : ℕ) → seen_of w t ≤ w.published
 
   still : (w : World A) → is_still w ≡ true → (w.down ≡ false) × (is_none w.in_flight ≡ true)
-  still w h = let p = both (not w.down) (is_none w.in_flight) h in (not_true w.down p.0, p.1)
+  still w h = let p = both_true (not w.down) (is_none w.in_flight) h in (not_true w.down p.0, p.1)
 
   grounded : (base : State) (down : Bool) (d : ℕ) (acc : List (Command A)) (f : Option (List (Entry A))) → is_none f ≡ true → down ≡ false → Aloft base down d acc f → d ≡ length acc
   grounded base down d acc None e up h = h up
@@ -73,7 +76,7 @@ module _ {A : Type 0} where
 
   submits : (base : State) (w : World A) (s : ℕ) (c : Command A) → Sound base w → may w (Submit s c) ≡ true → Sound base (effect base w (Submit s c))
   submits base w s c h ok =
-      let up : w.down ≡ false = not_true w.down (both (not w.down) (c.station == s) (both (is_station w s) (not w.down && (c.station == s)) ok).1).0 in
+      let up : w.down ≡ false = not_true w.down (both_true (not w.down) (c.station == s) (both_true (is_station w s) (not w.down && (c.station == s)) ok).1).0 in
       record {
         stepped = h.stepped;
         shown = h.shown;
@@ -88,8 +91,8 @@ module _ {A : Type 0} where
 
   seals : (base : State) (w : World A) (s : ℕ) → Sound base w → may w (Seal s) ≡ true → Sound base (effect base w (Seal s))
   seals base w s h ok =
-      let rest = (both (is_station w s) (is_still w && (is_empty w.owed && (nat_lt (length w.batch) 64 && not (is_empty (queue_of w s))))) ok).1 in
-      let up = (still w (both (is_still w) (is_empty w.owed && (nat_lt (length w.batch) 64 && not (is_empty (queue_of w s)))) rest).0).0 in
+      let rest = (both_true (is_station w s) (is_still w && (is_empty w.owed && (nat_lt (length w.batch) 64 && not (is_empty (queue_of w s))))) ok).1 in
+      let up = (still w (both_true (is_still w) (is_empty w.owed && (nat_lt (length w.batch) 64 && not (is_empty (queue_of w s)))) rest).0).0 in
       record {
         stepped = h.stepped;
         shown = h.shown;
@@ -106,7 +109,7 @@ module _ {A : Type 0} where
   begins base w h ok =
       let s = after base w.accepted in
       let new = taken s w.batch in
-      let up = still w (both (is_still w) (not (is_empty w.batch) && (w.published == w.durable)) ok).0 in
+      let up = still w (both_true (is_still w) (not (is_empty w.batch) && (w.published == w.durable)) ok).0 in
       let all : w.durable ≡ length w.accepted = grounded base w.down w.durable w.accepted w.in_flight up.1 up.0 h.aloft in
       let same : take w.durable (w.accepted ++ new) ≡ take w.durable w.accepted = take-append-le w.durable w.accepted new h.stored in
       let whole : take w.durable (w.accepted ++ new) ≡ w.accepted = take_at w.accepted new w.durable (sym all) in
@@ -171,7 +174,8 @@ module _ {A : Type 0} where
   answer_within base l p all le (c, Kept n v) h = tt
   answer_within base l p all le (c, Refused r) h = tt
 
-  all_answered_within : (base : State) (l : List (Command A)) (p : ℕ) (all : Bool) → (all ≡ true → length l ≤ p) → (xs : List (Entry A)) → AllByRecursion (IsBorneOut base l) xs → AllByRecursion (IsWithin base p) (answered all xs)
+  all_answered_within : (base : State) (l : List (Command A)) (p : ℕ) (all : Bool) → (all ≡ true → length l ≤ p) → (xs : List (Entry A)) →
+      AllByRecursion (IsBorneOut base l) xs → AllByRecursion (IsWithin base p) (answered all xs)
   all_answered_within base l p all le [] h = tt
   all_answered_within base l p all le (x ∷ xs) h = (answer_within base l p all le x h.0, all_answered_within base l p all le xs h.1)
 
@@ -189,7 +193,7 @@ module _ {A : Type 0} where
 
   answers : (base : State) (w : World A) (s : ℕ) → Sound base w → may w (Answer s) ≡ true → Sound base (effect base w (Answer s))
   answers base w s h ok =
-      let up : w.down ≡ false = not_true w.down (both (not w.down) (not (is_empty (first_of s w.owed))) (both (is_station w s) (not w.down && not (is_empty (first_of s w.owed))) ok).1).0 in
+      let up : w.down ≡ false = not_true w.down (both_true (not w.down) (not (is_empty (first_of s w.owed))) (both_true (is_station w s) (not w.down && not (is_empty (first_of s w.owed))) ok).1).0 in
       let l = take w.durable w.accepted in
       let all = w.published == w.durable in
       let one = first_of s w.owed in
@@ -202,8 +206,8 @@ module _ {A : Type 0} where
         stored = h.stored;
         aloft = h.aloft;
         owing = all_without (IsBorneOut base l) s w.owed h.owing;
-        borne = all-append (IsBorneOut base l) w.answers (answered all one) h.borne (all_answered base l all one here);
-        within = all-append (IsWithin base w.published) w.answers (answered all one) h.within (all_answered_within base l w.published all fits one here);
+        borne = all_append (IsBorneOut base l) w.answers (answered all one) h.borne (all_answered base l all one here);
+        within = all_append (IsWithin base w.published) w.answers (answered all one) h.within (all_answered_within base l w.published all fits one here);
         quiet = λ down t. absurd (opposed w.down up down);
         sight = sight_put w s (queue_of w s) (seen_after (seen_of w s) w.published (answered all one)) (seen_after_le (seen_of w s) w.published (answered all one) (h.sight s)) h.sight;
       }
@@ -225,7 +229,8 @@ module _ {A : Type 0} where
   }
 
   -- what a crash leaves is a beginning
-  pub crash_prefix : (base : State) (down : Bool) (d : ℕ) (acc : List (Command A)) (f : Option (List (Entry A))) (k : ℕ) → Aloft base down d acc f → IsBeginning (take d acc ++ all_of (take k (records_of f))) acc
+  pub crash_prefix : (base : State) (down : Bool) (d : ℕ) (acc : List (Command A)) (f : Option (List (Entry A))) (k : ℕ) → Aloft base down d acc f →
+      IsBeginning (take d acc ++ all_of (take k (records_of f))) acc
   crash_prefix base down d acc None zero h = (drop d acc, sym (take-append-drop d acc) ∙ ap (λ t. t ++ drop d acc) (sym (append-nil (take d acc))))
   crash_prefix base down d acc None (suc k) h = (drop d acc, sym (take-append-drop d acc) ∙ ap (λ t. t ++ drop d acc) (sym (append-nil (take d acc))))
   crash_prefix base down d acc (Some f) k h =

@@ -31,7 +31,8 @@ module _ {A : Type 0} where
   )
 
   -- the reply to one command after a list
-  reply_borne : (base s : State) (l : List (Command A)) (c : Command A) → IsHistory base l → s ≡ after base l → (r : Reply A) → reply_to s c ≡ r → Replied s c (next s c) r → IsBorneOut base (l ++ c ∷ []) (c, r)
+  reply_borne : (base s : State) (l : List (Command A)) (c : Command A) → IsHistory base l → s ≡ after base l → (r : Reply A) → reply_to s c ≡ r →
+      Replied s c (next s c) r → IsBorneOut base (l ++ c ∷ []) (c, r)
   reply_borne base s l c a at (Accepted n p) is says =
       let count : (after base l).count ≡ base.count + length l = counted base l a in
       let same : s.count ≡ (after base l).count = ap (λ (t : State). t.count) at in
@@ -51,10 +52,12 @@ module _ {A : Type 0} where
   )
 
   -- a command that is not accepted leaves the list
-  reply_alone : (base s : State) (l : List (Command A)) (c : Command A) → IsHistory base l → s ≡ after base l → (r : Reply A) → reply_to s c ≡ r → Replied s c (next s c) r → is_acceptance r ≡ false → IsBorneOut base l (c, r)
+  reply_alone : (base s : State) (l : List (Command A)) (c : Command A) → IsHistory base l → s ≡ after base l → (r : Reply A) → reply_to s c ≡ r →
+      Replied s c (next s c) r → is_acceptance r ≡ false → IsBorneOut base l (c, r)
   reply_alone base s l c a at (Accepted n p) is says not_it = absurd (true≢false not_it)
   reply_alone base s l c a at (Kept n p) is says not_it =
-      let kept : last_at (after base l) c.station ≡ Some (last_of c n p) = subst (λ t. last_at t c.station ≡ Some (last_of c n p)) at says.2 in kept_is_there base l a c.station (last_of c n p) says.1 kept
+      let kept : last_at (after base l) c.station ≡ Some (last_of c n p) = subst (λ t. last_at t c.station ≡ Some (last_of c n p)) at says.2 in
+      kept_is_there base l a c.station (last_of c n p) says.1 kept
   reply_alone base s l c a at (Refused r) is says not_it = (
     length l,
     omega arith,

@@ -8,8 +8,8 @@ ghost use Rattle.centre_core.specs.Batches.{with_replies, accepted_of, taken};
 ghost use Rattle.schedule.specs.World.{Entry, ground};
 ghost use Rattle.schedule.specs.Next.{answer_from, last_answer};
 
+use base::TryCopy;
 use centre_core::{Command, Register, Reply};
-use prefix_tree::TryCopy;
 use registration::{
     Limits, MAIL_CAPACITY, RADIO_CAPACITY, RULE_CAPACITY, STATION_CAPACITY, Station,
 };

@@ -1,5 +1,6 @@
 -- The bits of a PDU with the reserved ones 0 are its written form.
-use Rattle.std.proofs.Common.{◌≡◌, ℕ, ◌+◌, Bool, true, false, cond, eqb, List, [], ◌∷◌, ◌++◌, length, take, drop, replicate, Option, Some, None, Result, Ok, Err, refl, sym, ap, subst, ◌∙◌, length-append, append_assoc}
+use Rattle.std.proofs.Common.{◌≡◌, ℕ, ◌+◌, Bool, true, false, cond, eqb, List, [], ◌∷◌, ◌++◌, length, take, drop, replicate, Option, Some, None}
+use Rattle.std.proofs.Common.{Result, Ok, Err, refl, sym, ap, subst, ◌∙◌, length-append, append_assoc}
 use Rattle.std.specs.Result.{result_map_both}
 use Rattle.std.proofs.lemmas.List.{take_at, drop_at}
 use Rattle.identity.specs.Number.{num}
@@ -18,7 +19,8 @@ use Rattle.sds_tl.proofs.Written.{canon_room, canon_spells}
 use Rattle.sds_tl.proofs.Heads.{heads_agree}
 
 -- a part in the middle makes way for another
-changed : (prefix part following bits other : List Bool) (at w : ℕ) → length prefix ≡ at → length part ≡ w → bits ≡ prefix ++ (part ++ following) → take at bits ++ other ++ drop (at + w) bits ≡ prefix ++ (other ++ following)
+changed : (prefix part following bits other : List Bool) (at w : ℕ) → length prefix ≡ at → length part ≡ w → bits ≡ prefix ++ (part ++ following) →
+    take at bits ++ other ++ drop (at + w) bits ≡ prefix ++ (other ++ following)
 changed prefix part following bits other at w len width is =
     let before : take at bits ≡ prefix = ap (take at) is ∙ take_at prefix (part ++ following) at len in
     let after : drop (at + w) bits ≡ following = skipped at w part bits following width (ap (drop at) is ∙ drop_at prefix (part ++ following) at len) in
@@ -37,11 +39,14 @@ module _ (A : Type 0) where
   cleared_is_canon (Transfer i q s r d) bits spells = rw (type_is A (Transfer i q s r d) bits spells) spells.is
   cleared_is_canon (Report i a s r d) bits spells =
       rw (type_is A (Report i a s r d) bits spells)
-      (changed (num 8 i ++ (num 4 1 ++ (a ∷ []))) spells.reserved (false ∷ (num 8 s ++ (num 8 r ++ d))) bits (false ∷ false ∷ []) 13 2 (simp (length-append, length-num) refl) spells.width (spells.is ∙ report_prefix (num 8 i) (num 4 1) spells.reserved (num 8 s) (num 8 r) d a false)
+      (changed (num 8 i ++ (num 4 1 ++ (a ∷ []))) spells.reserved (false ∷ (num 8 s ++ (num 8 r ++ d))) bits (false ∷ false ∷ []) 13 2
+      (simp (length-append, length-num) refl) spells.width
+      (spells.is ∙ report_prefix (num 8 i) (num 4 1) spells.reserved (num 8 s) (num 8 r) d a false)
       ∙ sym (report_prefix (num 8 i) (num 4 1) (false ∷ false ∷ []) (num 8 s) (num 8 r) d a false))
   cleared_is_canon (Ack i s r) bits spells =
       rw (type_is A (Ack i s r) bits spells)
-      (changed (num 8 i ++ num 4 2) spells.reserved (num 8 s ++ num 8 r) bits (replicate 4 false) 12 4 (simp (length-append, length-num) refl) spells.width (spells.is ∙ ack_prefix (num 8 i) (num 4 2) spells.reserved (num 8 s) (num 8 r))
+      (changed (num 8 i ++ num 4 2) spells.reserved (num 8 s ++ num 8 r) bits (replicate 4 false) 12 4 (simp (length-append, length-num) refl)
+      spells.width (spells.is ∙ ack_prefix (num 8 i) (num 4 2) spells.reserved (num 8 s) (num 8 r))
       ∙ sym (ack_prefix (num 8 i) (num 4 2) (replicate 4 false) (num 8 s) (num 8 r)))
 
   pub cleared_spells : (sds : Sds A) (bits : List Bool) → Spells sds bits → Spells sds (cleared bits)

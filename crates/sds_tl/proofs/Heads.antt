@@ -9,7 +9,8 @@ module _ (A : Type 0) where
   unfolding head_value value
   value_head bits = by (eqb (type_of bits) 0) (eqb (type_of bits) 1)
     where
-      by : (b d : Bool) → cond b (head_of {A = A} (transfer bits)) (cond d (head_of {A = A} (report bits)) (head_of {A = A} (ack bits))) ≡ head_of {A = A} (cond b (transfer bits) (cond d (report bits) (ack bits)))
+      by : (b d : Bool) → cond b (head_of {A = A} (transfer bits)) (cond d (head_of {A = A} (report bits)) (head_of {A = A} (ack bits))) ≡ head_of
+          {A = A} (cond b (transfer bits) (cond d (report bits) (ack bits)))
       by true d = refl
       by false true = refl
       by false false = refl

@@ -1,5 +1,6 @@
 -- The two laws: what is read is spelt so, and what is spelt so is read.
-use Rattle.std.proofs.Common.{◌≡◌, ℕ, ◌≤◌, Bool, true, false, cond, eqb, List, [], ◌∷◌, ◌++◌, length, drop, Option, Some, None, Result, Ok, Err, refl, sym, ap, subst, ◌∙◌, arith, length-append, append_assoc}
+use Rattle.std.proofs.Common.{◌≡◌, ℕ, ◌≤◌, Bool, true, false, cond, eqb, List, [], ◌∷◌, ◌++◌, length, drop, Option, Some, None, Result, Ok, Err, refl}
+use Rattle.std.proofs.Common.{sym, ap, subst, ◌∙◌, arith, length-append, append_assoc}
 use Rattle.std.specs.Prelude.{IfOk}
 use Rattle.std.proofs.lemmas.Bool.{cond_both, eqb-true, eqb-false}
 use Rattle.std.proofs.lemmas.List.{append-nil, drop_all, length-drop}
@@ -64,11 +65,14 @@ module _ (A : Type 0) where
       let f15 = split_bit 15 bits (omega arith) in
       let f16 = split 16 8 bits (omega arith) in
       let request = request_of (flag 12 bits) (flag 13 bits) in
-      let asked : drop 12 bits ≡ num 2 (code_of request) ++ drop 14 bits = f12 ∙ put_after (flag 12 bits ∷ []) f13 ∙ ap (λ (t : List Bool). t ++ drop 14 bits) (sym (request_text (flag 12 bits) (flag 13 bits))) in
+      let asked : drop 12 bits ≡ num 2 (code_of request) ++ drop 14 bits = f12 ∙ put_after (flag 12 bits ∷ []) f13 ∙
+      ap (λ (t : List Bool). t ++ drop 14 bits) (sym (request_text (flag 12 bits) (flag 13 bits))) in
       f0
       ∙ put_after (num 8 (field 0 8 bits)) (f8 ∙ ap (λ (n : ℕ). num 4 n ++ drop 12 bits) kind)
       ∙ put_after (num 8 (field 0 8 bits)) (put_after (num 4 0) asked)
-      ∙ put_after (num 8 (field 0 8 bits)) (put_after (num 4 0) (put_after (num 2 (code_of request)) (f14 ∙ put_after (flag 14 bits ∷ []) (f15 ∙ ap (λ (b : Bool). b ∷ drop 16 bits) control ∙ put_after (false ∷ []) f16))))
+      ∙ put_after (num 8 (field 0 8 bits))
+      (put_after (num 4 0) (put_after (num 2 (code_of request))
+      (f14 ∙ put_after (flag 14 bits ∷ []) (f15 ∙ ap (λ (b : Bool). b ∷ drop 16 bits) control ∙ put_after (false ∷ []) f16))))
       ∙ sym (nested_transfer (num 8 (field 0 8 bits)) (num 4 0) (num 2 (code_of request)) (num 8 (field 16 8 bits)) (drop 24 bits) (flag 14 bits) false)
 
   report_text : (bits : List Bool) → type_of bits ≡ 1 → flag 15 bits ≡ false → 32 ≤ length bits → bits ≡ text {A = A} (report bits) (num 2 (field 13 2 bits))
@@ -82,7 +86,11 @@ module _ (A : Type 0) where
       let f24 = split 24 8 bits (omega arith) in
       f0
       ∙ put_after (num 8 (field 0 8 bits)) (f8 ∙ ap (λ (n : ℕ). num 4 n ++ drop 12 bits) kind)
-      ∙ put_after (num 8 (field 0 8 bits)) (put_after (num 4 1) (f12 ∙ put_after (flag 12 bits ∷ []) (f13 ∙ put_after (num 2 (field 13 2 bits)) (f15 ∙ ap (λ (b : Bool). b ∷ drop 16 bits) control ∙ put_after (false ∷ []) (f16 ∙ put_after (num 8 (field 16 8 bits)) f24)))))
+      ∙ put_after (num 8 (field 0 8 bits))
+      (put_after (num 4 1) (f12 ∙
+      put_after (flag 12 bits ∷ [])
+      (f13 ∙ put_after (num 2 (field 13 2 bits)) (f15 ∙ ap (λ (b : Bool). b ∷ drop 16 bits) control ∙
+      put_after (false ∷ []) (f16 ∙ put_after (num 8 (field 16 8 bits)) f24)))))
       ∙ sym (nested_report (num 8 (field 0 8 bits)) (num 4 1) (num 2 (field 13 2 bits)) (num 8 (field 16 8 bits)) (num 8 (field 24 8 bits)) (drop 32 bits) (flag 12 bits) false)
 
   ack_text : (bits : List Bool) → type_of bits ≡ 2 → length bits ≡ 32 → bits ≡ text {A = A} (ack bits) (num 4 (field 12 4 bits))
@@ -95,7 +103,9 @@ module _ (A : Type 0) where
       let nothing : drop 32 bits ≡ [] = drop_all 32 bits (omega arith) in
       f0
       ∙ put_after (num 8 (field 0 8 bits)) (f8 ∙ ap (λ (n : ℕ). num 4 n ++ drop 12 bits) kind)
-      ∙ put_after (num 8 (field 0 8 bits)) (put_after (num 4 2) (f12 ∙ put_after (num 4 (field 12 4 bits)) (f16 ∙ put_after (num 8 (field 16 8 bits)) (f24 ∙ put_after (num 8 (field 24 8 bits)) nothing))))
+      ∙ put_after (num 8 (field 0 8 bits))
+      (put_after (num 4 2) (f12 ∙
+      put_after (num 4 (field 12 4 bits)) (f16 ∙ put_after (num 8 (field 16 8 bits)) (f24 ∙ put_after (num 8 (field 24 8 bits)) nothing))))
       ∙ sym (nested_ack (num 8 (field 0 8 bits)) (num 4 2) (num 4 (field 12 4 bits)) (num 8 (field 16 8 bits)) (num 8 (field 24 8 bits)))
 
   transfer_takes : (bits : List Bool) → fault bits ≡ None → type_of bits ≡ 0 → Spells {A = A} (transfer bits) bits
@@ -117,7 +127,12 @@ module _ (A : Type 0) where
       record {
         reserved = num 2 (field 13 2 bits);
         width = length-num 2 (field 13 2 bits);
-        range = record { layer = p.layer; identifier_fits = field_small 0 8 bits (omega arith); status_fits = field_small 16 8 bits (omega arith); reference_fits = field_small 24 8 bits (omega arith) };
+        range = record {
+          layer = p.layer;
+          identifier_fits = field_small 0 8 bits (omega arith);
+          status_fits = field_small 16 8 bits (omega arith);
+          reference_fits = field_small 24 8 bits (omega arith);
+        };
         is = report_text bits kind d.0 d.1;
         room = p.most;
       }
@@ -130,7 +145,12 @@ module _ (A : Type 0) where
       record {
         reserved = num 4 (field 12 4 bits);
         width = length-num 4 (field 12 4 bits);
-        range = record { layer = p.layer; identifier_fits = field_small 0 8 bits (omega arith); status_fits = field_small 16 8 bits (omega arith); reference_fits = field_small 24 8 bits (omega arith) };
+        range = record {
+          layer = p.layer;
+          identifier_fits = field_small 0 8 bits (omega arith);
+          status_fits = field_small 16 8 bits (omega arith);
+          reference_fits = field_small 24 8 bits (omega arith);
+        };
         is = ack_text bits kind len;
         room = p.most;
       }
@@ -171,12 +191,14 @@ module _ (A : Type 0) where
   Reads : List Bool → Sds A → Type 0
   Reads bits sds = (fault bits ≡ None) × (value bits ≡ sds) × (type_of bits ≡ type_number sds)
 
-  transfer_again : (identifier : ℕ) (request : DeliveryReportRequest) (selection : Bool) (reference : ℕ) (user_data reserved bits : List Bool) → InRange identifier 0 reference → length bits ≤ most_bits
+  transfer_again : (identifier : ℕ) (request : DeliveryReportRequest) (selection : Bool) (reference : ℕ) (user_data reserved bits : List Bool) →
+      InRange identifier 0 reference → length bits ≤ most_bits
       → bits ≡ text {A = A} (Transfer identifier request selection reference user_data) reserved → Reads bits (Transfer identifier request selection reference user_data)
   unfolding value Reads
   transfer_again i q s r d reserved bits range most is =
       let q-is = request_back q in
-      let f0 = found 0 8 i bits (num 4 0 ++ (num 2 (code_of q) ++ (s ∷ false ∷ (num 8 r ++ d)))) range.identifier_fits (is ∙ nested_transfer (num 8 i) (num 4 0) (num 2 (code_of q)) (num 8 r) d s false) in
+      let f0 = found 0 8 i bits (num 4 0 ++ (num 2 (code_of q) ++ (s ∷ false ∷ (num 8 r ++ d)))) range.identifier_fits
+      (is ∙ nested_transfer (num 8 i) (num 4 0) (num 2 (code_of q)) (num 8 r) d s false) in
       let f8 = found 8 4 0 bits (num 2 (code_of q) ++ (s ∷ false ∷ (num 8 r ++ d))) (omega arith) f0.1 in
       let f12 = found_bit 12 q-is.0 bits (q-is.1 ∷ s ∷ false ∷ (num 8 r ++ d)) (f8.1 ∙ ap (λ (t : List Bool). t ++ (s ∷ false ∷ (num 8 r ++ d))) q-is.2) in
       let f13 = found_bit 13 q-is.1 bits (s ∷ false ∷ (num 8 r ++ d)) f12.1 in
@@ -190,11 +212,13 @@ module _ (A : Type 0) where
       let fits : Passes bits = record { most = most; layer = layer; known = omega arith; header = omega arith; left = rw kind (data_passes 24 bits f15.0 room) } in
       (passed_on bits fits, rw kind (cc (f0.0, request, f14.0, f16.0, f16.1)), kind)
 
-  report_again : (identifier : ℕ) (acknowledge : Bool) (status reference : ℕ) (user_data reserved bits : List Bool) → InRange identifier status reference → length reserved ≡ 2 → length bits ≤ most_bits
+  report_again : (identifier : ℕ) (acknowledge : Bool) (status reference : ℕ) (user_data reserved bits : List Bool) →
+      InRange identifier status reference → length reserved ≡ 2 → length bits ≤ most_bits
       → bits ≡ text {A = A} (Report identifier acknowledge status reference user_data) reserved → Reads bits (Report identifier acknowledge status reference user_data)
   unfolding value Reads
   report_again i a s r d reserved bits range width most is =
-      let f0 = found 0 8 i bits (num 4 1 ++ (a ∷ (reserved ++ (false ∷ (num 8 s ++ (num 8 r ++ d)))))) range.identifier_fits (is ∙ nested_report (num 8 i) (num 4 1) reserved (num 8 s) (num 8 r) d a false) in
+      let f0 = found 0 8 i bits (num 4 1 ++ (a ∷ (reserved ++ (false ∷ (num 8 s ++ (num 8 r ++ d)))))) range.identifier_fits
+      (is ∙ nested_report (num 8 i) (num 4 1) reserved (num 8 s) (num 8 r) d a false) in
       let f8 = found 8 4 1 bits (a ∷ (reserved ++ (false ∷ (num 8 s ++ (num 8 r ++ d))))) (omega arith) f0.1 in
       let f12 = found_bit 12 a bits (reserved ++ (false ∷ (num 8 s ++ (num 8 r ++ d)))) f8.1 in
       let f13 = skipped 13 2 reserved bits (false ∷ (num 8 s ++ (num 8 r ++ d))) width f12.1 in

@@ -45,7 +45,8 @@ module _ (A : Type 0) where
   passed (Report identifier acknowledge status reference user_data) n e = cc
   passed (Ack identifier status reference) n e = cc
 
-  pub found_alike : (bits : List Bool) (reference : ℕ) (r : Result (Sds A) SdsFault) → transfer_reference (heading bits) ≡ Ok reference → IfOk r (λ sds. Spells sds bits) → IfOk r (λ sds. Spells sds bits × IsTrue (is_transfer sds))
+  pub found_alike : (bits : List Bool) (reference : ℕ) (r : Result (Sds A) SdsFault) → transfer_reference (heading bits) ≡ Ok reference →
+      IfOk r (λ sds. Spells sds bits) → IfOk r (λ sds. Spells sds bits × IsTrue (is_transfer sds))
   found_alike bits reference (Ok sds) e spells =
       (spells, passed sds reference (ap (λ r. result_map_both reference_of (λ (f : SdsFault). f) (only_transfer r)) (sym (reading_again A sds bits spells)) ∙ sym (references_agree bits) ∙ e))
   found_alike bits reference (Err f) e spells = tt

@@ -1,5 +1,6 @@
 -- What a call of a disk in memory leaves.
-use Rattle.std.proofs.Common.{replicate, zero, suc, take, drop, ◌≡◌, ℕ, ◌<◌, Bool, true, false, List, [], ◌∷◌, ◌++◌, length, map, set, filter, ◌+◌, if◌then◌else◌, refl, sym, ◌∙◌, ap, arith, Ok, inl, inr, get_or-set_same, get_or-set_other}
+use Rattle.std.proofs.Common.{replicate, zero, suc, take, drop, ◌≡◌, ℕ, ◌<◌, Bool, true, false, List, [], ◌∷◌, ◌++◌, length, map, set, filter, ◌+◌}
+use Rattle.std.proofs.Common.{if◌then◌else◌, refl, sym, ◌∙◌, ap, arith, Ok, inl, inr, get_or-set_same, get_or-set_other}
 use Rattle.std.proofs.Math.ListN.{length-set, get_or-map}
 use Rattle.std.proofs.lemmas.List.{get_or_past, get_or-replicate, length-replicate, take_all, drop_all, append-nil, map-id}
 use Rattle.std.proofs.lemmas.Bool.{cases_eq, cases_lt}
@@ -44,7 +45,8 @@ read_effect old new at bytes is base calls reads pending given =
       given = given;
     }
 
-pub write_effect : {A : Type 0} (old new : MemoryDisk A) (at : ℕ) (bytes : List ℕ) → IsReplayed old → at < length old.sectors.items → length old.pending.items ≡ length old.sectors.items → IsSector bytes
+pub write_effect : {A : Type 0} (old new : MemoryDisk A) (at : ℕ) (bytes : List ℕ) → IsReplayed old → at < length old.sectors.items →
+    length old.pending.items ≡ length old.sectors.items → IsSector bytes
     → new.base.items ≡ old.base.items → new.record.calls.items ≡ old.record.calls.items ++ Write at bytes ∷ []
     → new.sectors.items ≡ set old.sectors.items at bytes → new.pending.items ≡ set old.pending.items at true
     → HasWritten (memory_view old) (memory_view new) at bytes (Ok tt)
@@ -106,7 +108,8 @@ crash_replayed new after_calls marks calls base sectors pending count whole = re
 
 -- after a stop
 pub restarted : {A : Type 0} (old new : MemoryDisk A) (after_calls : List (List ℕ)) (marks : List Bool) → new.record.calls.items ≡ [] → new.base.items ≡ after_calls → new.sectors.items ≡ after_calls
-    → new.pending.items ≡ map (λ mark. false) marks → length marks ≡ length after_calls → (IsReplayed old → AreSectors after_calls) → new.record.room ≡ old.record.room → new.record.failures ≡ old.record.failures → IsRestarted old new
+    → new.pending.items ≡ map (λ mark. false) marks → length marks ≡ length after_calls → (IsReplayed old → AreSectors after_calls) →
+    new.record.room ≡ old.record.room → new.record.failures ≡ old.record.failures → IsRestarted old new
 restarted old new after_calls marks calls base sectors pending count whole room failures = record {
   honest = λ is. crash_replayed new after_calls marks calls base sectors pending count (whole is);
   durable = λ k. rw pending (all_clear marks k);
@@ -149,7 +152,8 @@ blank new n room calls base sectors pending failures is_room =
 module _ (marks : List Bool) (k : ℕ) (all new : List ℕ) (so_far : all ≡ filter (is_pending marks) (range_with_len 0 k)) where
   more : all ++ (if is_pending marks k then k ∷ [] else []) ≡ filter (is_pending marks) (range_with_len 0 (k + 1))
   more =
-      let both : filter (is_pending marks) (map (λ (n : ℕ). n) (range_with_len 0 (k + 1))) ≡ filter (is_pending marks) (map (λ (n : ℕ). n) (range_with_len 0 k)) ++ (if is_pending marks k then k ∷ [] else []) =
+      let both : filter (is_pending marks) (map (λ (n : ℕ). n) (range_with_len 0 (k + 1))) ≡ filter (is_pending marks)
+      (map (λ (n : ℕ). n) (range_with_len 0 k)) ++ (if is_pending marks k then k ∷ [] else []) =
       filter_of_map_range_with_len_more (is_pending marks) (λ (n : ℕ). n) 0 k k (omega arith) in
       ap (λ (xs : List ℕ). xs ++ (if is_pending marks k then k ∷ [] else [])) so_far ∙ sym (simp map-id at both)
 

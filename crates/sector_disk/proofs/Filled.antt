@@ -28,7 +28,9 @@ fill_more old mid new at k bytes one result filled wrote is sound in_range =
     torn_on old mid at k filled.now image (torn_by mid new (at + k) one result sound in_range wrote image left) in
     record {
       honest = wrote.honest;
-      crash = goes_on old mid new (IsTornImage old at (k + 1)) (weaker old mid (IsTornImage old at k) (IsTornImage old at (k + 1)) filled.crash (torn_wider old at k (k + 1) (omega arith))) wrote.time now;
+      crash = goes_on old mid new (IsTornImage old at (k + 1))
+          (weaker old mid (IsTornImage old at k) (IsTornImage old at (k + 1)) filled.crash (torn_wider old at k (k + 1) (omega arith))) wrote.time
+          now;
       now = now;
       count = wrote.count ∙ filled.count;
       others = λ j out. wrote.others j (elsewhere j out) ∙ filled.others j (narrow j out);
@@ -49,12 +51,14 @@ fill_more old mid new at k bytes one result filled wrote is sound in_range =
       | inr last ↦ let same : j ≡ k = omega (arith, lt, last) in rw same (there ∙ is)
     ]
 
-    written : (outcome : Result Unit DiskError) → OnOk outcome ((sector new.reads (at + k) ≡ one) × (new.pending (at + k) ≡ true)) → OnOk outcome ((j : ℕ) → j < k + 1 → sector new.reads (at + j) ≡ bytes j)
+    written : (outcome : Result Unit DiskError) → OnOk outcome ((sector new.reads (at + k) ≡ one) × (new.pending (at + k) ≡ true)) →
+        OnOk outcome ((j : ℕ) → j < k + 1 → sector new.reads (at + j) ≡ bytes j)
     written (Ok u) (there, marked) = each there
     written (Err e) none = tt
 
 -- it stopped before the end
-pub fill_wider : (old new : View) (at k n : ℕ) (bytes : ℕ → List ℕ) (first result : Result Unit DiskError) → IsErr result → k ≤ n → HasFilled old new at k bytes first → HasFilled old new at n bytes result
+pub fill_wider : (old new : View) (at k n : ℕ) (bytes : ℕ → List ℕ) (first result : Result Unit DiskError) → IsErr result → k ≤ n →
+    HasFilled old new at k bytes first → HasFilled old new at n bytes result
 fill_wider old new at k n bytes first result err le filled = record {
   honest = filled.honest;
   crash = weaker old new (IsTornImage old at k) (IsTornImage old at n) filled.crash (torn_wider old at k n le);

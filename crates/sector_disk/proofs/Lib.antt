@@ -3,5 +3,5 @@ pub mod Filled
 pub mod OnlyRead
 pub mod Made
 pub mod Moments
-mod Order
 pub mod Reading
+pub mod Effects

@@ -22,7 +22,8 @@ made_of_more old new calls more has = record {
 }
 
 -- one call more, which may have failed
-pub made_on : (old mid new : View) (before after : List Call) (call : Call) (result : Result Unit DiskError) → mid.calls ≡ old.calls ++ before → IsCalled mid new call result → HasMade old new (before ++ call ∷ after)
+pub made_on : (old mid new : View) (before after : List Call) (call : Call) (result : Result Unit DiskError) → mid.calls ≡ old.calls ++ before →
+    IsCalled mid new call result → HasMade old new (before ++ call ∷ after)
 made_on old mid new before after call (Ok u) were called = record {
   made = before ++ call ∷ [];
   left = after;
@@ -54,8 +55,10 @@ unfolding writes
 one_write_more at k bytes one is = let next : k + 1 ≡ suc k = omega arith in rw (next, is) refl
 
 -- it has answered `Ok`
-pub one_made : (old mid new : List Call) (at k : ℕ) (bytes : ℕ → List ℕ) (one : List ℕ) → one ≡ bytes k → mid ≡ old ++ writes at k bytes → new ≡ mid ++ Write (at + k) one ∷ [] → new ≡ old ++ writes at (k + 1) bytes
-one_made old mid new at k bytes one is were called = all_made old mid new (writes at k bytes) (Write (at + k) one) were called ∙ ap (λ (some : List Call). old ++ some) (one_write_more at k bytes one is)
+pub one_made : (old mid new : List Call) (at k : ℕ) (bytes : ℕ → List ℕ) (one : List ℕ) → one ≡ bytes k → mid ≡ old ++ writes at k bytes →
+    new ≡ mid ++ Write (at + k) one ∷ [] → new ≡ old ++ writes at (k + 1) bytes
+one_made old mid new at k bytes one is were called = all_made old mid new (writes at k bytes) (Write (at + k) one) were called ∙
+    ap (λ (some : List Call). old ++ some) (one_write_more at k bytes one is)
 
 -- the first k of n
 pub record IsPrefix (at k n : ℕ) (bytes : ℕ → List ℕ) : Type 0 where
@@ -78,5 +81,7 @@ pub write_made : (old mid new : View) (at k n : ℕ) (bytes : ℕ → List ℕ) 
     → IsCalled mid new (Write (at + k) one) result → HasMade old new (writes at n bytes)
 write_made old mid new at k n bytes one result lt is were called =
     let rest : IsPrefix at (k + 1) n bytes = prefix_of at (k + 1) n bytes (omega (arith, lt)) in
-    let all : writes at n bytes ≡ writes at k bytes ++ Write (at + k) one ∷ rest.left = rest.prefix ∙ ap (λ (some : List Call). some ++ rest.left) (sym (one_write_more at k bytes one is)) ∙ append_assoc (writes at k bytes) (Write (at + k) one ∷ []) rest.left in
+    let all : writes at n bytes ≡ writes at k bytes ++ Write (at + k) one ∷ rest.left = rest.prefix ∙
+    ap (λ (some : List Call). some ++ rest.left) (sym (one_write_more at k bytes one is)) ∙
+    append_assoc (writes at k bytes) (Write (at + k) one ∷ []) rest.left in
     rw all (made_on old mid new (writes at k bytes) rest.left (Write (at + k) one) result were called)

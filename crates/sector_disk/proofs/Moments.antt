@@ -3,7 +3,7 @@ use Rattle.std.proofs.Common.{◌≡◌, ◌≢◌, ◌⊎◌, inl, inr, ⊎_eli
 use Rattle.std.proofs.Math.ListN.{length-set}
 use Rattle.std.proofs.lemmas.Bool.{cases_eq}
 use Rattle.std.proofs.lemmas.List.{get_or_default, same_lists}
-use Rattle.sector_disk.specs.Disk.{View, IsImageOf, IsSector, IsSound, Elapses, HasCause, HasRead, HasWritten, HasSynced, sector}
+use Rattle.sector_disk.specs.Disk.{View, IsImageOf, IsSector, IsSound, Elapses, HasRead, HasWritten, HasSynced, sector}
 use Rattle.sector_disk.specs.Run.{LeavesOnly, IsTornImage}
 use Rattle.sector_disk.specs.declared.disk.DiskError.{DiskError}
 use Rattle.std.specs.Result.{OnOk, OnErr}
@@ -98,15 +98,6 @@ weaker old new P Q first then = record {
   before = λ t image le left. ⊎_elim inl (λ now. inr (then image now)) (first.before t image le left);
 }
 
--- one call after another: the cause of the last is a cause of both
-pub caused : {T : Type 0} (old mid new : View) (result : Result T DiskError) → mid.sectors ≡ old.sectors → old.failures ≤ mid.failures → HasCause mid new result → HasCause old new result
-caused old mid new result sectors failures cause = record {
-  sectors = cause.sectors ∙ sectors;
-  later = omega (arith, failures, cause.later);
-  bound = cause.bound;
-  fault = λ is. ⊎_elim (λ rose. inl (omega (arith, rose, failures))) inr (cause.fault is);
-}
-
 -- reading adds no image
 pub read_images : (old new : View) (at : ℕ) (bytes : List ℕ) (result : Result Unit DiskError) → HasRead old new at bytes result → (image : List (List ℕ)) → IsImageOf new image → IsImageOf old image
 read_images old new at bytes result has image is = record {
@@ -142,9 +133,11 @@ pub read_on : (old mid new : View) (P : List (List ℕ) → Type 0) (at : ℕ) (
 read_on old mid new P at bytes result so_far has here = goes_on old mid new P so_far has.time (λ image is. here image (read_images mid new at bytes result has image is))
 
 -- a run goes on by a write
-pub write_on : (old mid new : View) (P : List (List ℕ) → Type 0) (at : ℕ) (bytes : List ℕ) (result : Result Unit DiskError) → LeavesOnly old mid P → IsSound mid → at < mid.sectors → HasWritten mid new at bytes result
+pub write_on : (old mid new : View) (P : List (List ℕ) → Type 0) (at : ℕ) (bytes : List ℕ) (result : Result Unit DiskError) → LeavesOnly old mid P →
+    IsSound mid → at < mid.sectors → HasWritten mid new at bytes result
     → ((image : List (List ℕ)) → IsTornImage mid at 1 image → P image) → LeavesOnly old new P
-write_on old mid new P at bytes result so_far sound in_range wrote here = goes_on old mid new P so_far wrote.time (λ image is. here image (torn_by mid new at bytes result sound in_range wrote image is))
+write_on old mid new P at bytes result so_far sound in_range wrote here =
+    goes_on old mid new P so_far wrote.time (λ image is. here image (torn_by mid new at bytes result sound in_range wrote image is))
 
 -- a run goes on by a sync
 pub sync_on : (old mid new : View) (P : List (List ℕ) → Type 0) (result : Result Unit DiskError) → LeavesOnly old mid P → HasSynced mid new result

@@ -3,7 +3,6 @@
 #![tactic(auto)]
 
 mod disk;
-pub mod example;
 mod failing;
 mod memory;
 mod record;

@@ -1,5 +1,6 @@
 -- Out of memory reported in the place of a list.
 use Rattle.std.proofs.Common.{◌≡◌, ℕ, ◌+◌, ◌≤◌, ◌<◌, ◌∙◌, ap, arith, Result, Ok, Err, OnOk, OnErr, is_ok, [], ◌++◌, true, false, Bool, List, refl, sym, subst, inl, inr}
+use Rattle.std.specs.Prelude.{IsSome}
 use Rattle.std.proofs.lemmas.Bool.{true≢false}
 use mathlib.Core.Bool.{false≢true}
 use Rattle.centre_core.specs.State.{State}
@@ -13,11 +14,12 @@ use Rattle.listings.specs.declared.listing.Listing.{Listing}
 use Rattle.listings.specs.declared.listing.Listing.TheVariants as listing
 use Rattle.console.specs.declared.line.Line.{Line}
 use Rattle.console.specs.declared.line.Line.TheVariants.{Silent, Bad, Apply, Ask, Print, Mark, OwnStation, Service, Forbidden}
+use Rattle.console.specs.declared.line.LineFault.TheVariants.{Syntax}
 use Rattle.console.specs.declared.answer.Answer.{Answer}
 use Rattle.console.specs.declared.answer.Answer.TheVariants as answer
 use Rattle.console.specs.Answer.{is_list, IsLine, IsOneLine}
 use Rattle.console.specs.Dialogue.{AnswersQuery}
-use Rattle.console.specs.Reading.{reading}
+use Rattle.console.specs.Reading.{reading, sequence_of}
 use Rattle.served_disk.specs.Showing.{HasNoListing, IsListingOf, IsShown, IsTextOf, ShowsReading}
 
 listed : {B : Type 0} (t : QueryAnswer B) → (IsOneLine t → ⊥) → is_list t ≡ true
@@ -43,6 +45,18 @@ module _ {A : Type 0} where
   query_outage s q (answer.ServiceOutage number) long is = absurd is
   query_outage s q (answer.Forbidden sequence) long is = absurd is
 
+  -- memory lacks only for a command, which is no query
+  pub no_query : (s : State) (said : Line A) → IsSome (sequence_of said) → ShowsReading s said (answer.Bad 1 Syntax) × HasNoListing A said
+  no_query s Silent has = absurd (false≢true has)
+  no_query s (Bad fault) has = absurd (false≢true has)
+  no_query s (Apply c) has = (refl, tt)
+  no_query s (Ask q) has = absurd (false≢true has)
+  no_query s (Print l) has = absurd (false≢true has)
+  no_query s (Mark word) has = absurd (false≢true has)
+  no_query s (OwnStation station) has = absurd (false≢true has)
+  no_query s Service has = absurd (false≢true has)
+  no_query s (Forbidden sequence) has = absurd (false≢true has)
+
   short : (a b : Answer A) → a ≡ b → IsLine b → IsLine a
   short a b same is = subst (λ (c : Answer A). IsLine c) (sym same) is
 
@@ -57,9 +71,16 @@ module _ {A : Type 0} where
   gives_way s Service a none long is = absurd (long (short a _ is tt))
   gives_way s (Forbidden sequence) a none long is = absurd (long (short a _ is tt))
 
-  pub shown : (s : State) (whole out : List ℕ) (troubled : Bool) (a : Answer A) → ShowsReading s (reading 1 whole) a × HasNoListing A (reading 1 whole) → IsTextOf a out troubled → IsShown A s whole out troubled
+  pub shown : (s : State) (whole out : List ℕ) (troubled : Bool) (a : Answer A) → ShowsReading s (reading 1 whole) a ×
+      HasNoListing A (reading 1 whole) → IsTextOf a out troubled → IsShown A s whole out troubled
   shown s whole out troubled a is (inl answered) = record { given = a; answers = is.0; written = answered.written; trouble = answered.trouble }
-  shown s whole out troubled a is (inr answered) = record { given = answer.QueryOutage 1 Memory; answers = gives_way s (reading 1 whole) a is.1 answered.long is.0; written = answered.written; trouble = answered.trouble }
+  shown s whole out troubled a is (inr answered) =
+      record {
+        given = answer.QueryOutage 1 Memory;
+        answers = gives_way s (reading 1 whole) a is.1 answered.long is.0;
+        written = answered.written;
+        trouble = answered.trouble;
+      }
 
   -- a listing in place of an answer
   pub shown_listing : (s : State) (whole out : List ℕ) (troubled : Bool) (l : Listing) → reading {A = A} 1 whole ≡ Print l → IsListingOf A s l out troubled → IsShown A s whole out troubled
@@ -88,7 +109,8 @@ no_line (Ok x) capacity size P room none err full line = absurd (true≢false er
 no_line (Err e) capacity size P room none err full line = let is = full line in absurd (omega (arith, is, room, none))
 
 -- what was written in the place of what found no room
-pub written_over : {X Y E F : Type 0} (r : Result X E) (q : Result Y F) (y : Y) (old mid new more : List ℕ) → old ≡ [] → is_ok r ≡ false → OnErr r (mid ≡ old) → q ≡ Ok y → OnOk q (new ≡ mid ++ more) → new ≡ more
+pub written_over : {X Y E F : Type 0} (r : Result X E) (q : Result Y F) (y : Y) (old mid new more : List ℕ) → old ≡ [] → is_ok r ≡ false →
+    OnErr r (mid ≡ old) → q ≡ Ok y → OnOk q (new ≡ mid ++ more) → new ≡ more
 written_over {Y = Y} {F = F} (Ok x) q y old mid new more none err same ok is = absurd (true≢false err)
 written_over {Y = Y} {F = F} (Err e) q y old mid new more none err same ok is =
     let put : new ≡ mid ++ more = subst (λ (w : Result Y F). OnOk w (new ≡ mid ++ more)) ok is in

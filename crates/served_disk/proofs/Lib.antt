@@ -1,10 +1,13 @@
 mod GivesWay
 mod Lacking
 mod Borrowed
-mod NotOpened
+mod OpenedFiles
+mod Zipped
 mod Reasons
 mod Stations
 mod RoundTrips
 mod AtOpening
 mod Inputs
 mod OfRest
+mod Returned
+mod Unchecked

@@ -1,24 +1,19 @@
 -- What a check says of a disk, for what is left of it.
-use Rattle.std.proofs.Common.{◌≡◌, ◌≤◌, Bool, List, ℕ, Option, Some, MatchOption, Result, Ok, Err, OnOk, ap, inl, inr, refl, subst}
+use Rattle.std.proofs.Common.{◌≡◌, ◌≤◌, Bool, List, ℕ, Option, Some, MatchOption, Result, Ok, Err, ap, inl, inr, refl, subst}
 use Rattle.sector_disk.specs.Disk.{View}
 use Rattle.recovery.specs.declared.checking.Checked.{Checked}
+use Rattle.recovery.specs.declared.rest.Rest.{Rest}
 use Rattle.recovery.specs.declared.fault.StoreFault.{StoreFault}
 use Rattle.recovery.specs.declared.fault.StoreFault.TheVariants.{BadGeometry, Broken, Damaged, DiskFault, EpochsUsedUp, NoMemory, Unformatted, Unready}
-use Rattle.recovery.specs.Checking.{IsOfCheck, checked_in}
+use Rattle.recovery.specs.Checking.{IsCheckOf, IsNoDamage, checked_in}
 use Rattle.recovery.specs.Label.{layout_in}
-use Rattle.recovery.specs.Opening.{Fails}
+use Rattle.recovery.specs.Opening.{Fails, IsOfOpening}
 use Rattle.recovery.specs.Opens.{opens, ◌>>=◌}
-use Rattle.recovery.specs.Rests.{HasNoRest, IsRestOf}
-use Rattle.register_text.specs.declared.dumping.DumpFault.{DumpFault}
+use Rattle.recovery.specs.Rests.{AreLaterOnDisk, HasNoRest, IsRestOf}
 use Rattle.served_disk.specs.declared.dumping.DiskDumpFault.{DiskDumpFault}
 use Rattle.served_disk.specs.declared.dumping.DiskDumpFault.TheVariants as dump
-use Rattle.served_disk.specs.Rests.{HasNoRestText, IsRestReportedOn, IsRestText}
+use Rattle.served_disk.specs.Rests.{HasNoRestText, IsRestReportedOn, IsRestText, line_of, line_of_found, without_damage}
 use Rattle.served_disk.proofs.Reasons.{has_failed}
-
--- what follows from what is said of a call that answered `Ok`
-pub then_on_ok : {X E : Type 0} {P Q : Type 0} (r : Result X E) → OnOk r P → (P → Q) → OnOk r Q
-then_on_ok (Ok x) is goes = goes is
-then_on_ok (Err e) is goes = tt
 
 -- what is said of a value that is there
 pub of_some : {X : Type 0} (P : Type 0) (Q : X → Type 0) (found : Option X) (x : X) → found ≡ Some x → MatchOption found P Q → Q x
@@ -32,7 +27,7 @@ same_fault X Y a b same = let is : a ≡ b = cc in ap (λ fault. Err fault) is
 
 module _ {X Y : Type 0} where
   -- what is read first has the fault, if the rest has none
-  first_fails : (f : X → Y) (first : Result X StoreFault) (fault : StoreFault) → IsOfCheck fault → Fails fault (first >>= (λ x. Ok (f x))) → Fails fault first
+  first_fails : (f : X → Y) (first : Result X StoreFault) (fault : StoreFault) → IsNoDamage fault → Fails fault (first >>= (λ x. Ok (f x))) → Fails fault first
   first_fails f (Ok x) Unformatted may is = absurd (not_both Y (f x) Unformatted is)
   first_fails f (Err e) Unformatted may is = same_fault X Y e Unformatted is
   first_fails f (Ok x) BadGeometry may is = absurd (not_both Y (f x) BadGeometry is)
@@ -45,12 +40,12 @@ module _ {X Y : Type 0} where
   first_fails f first Unready may is = absurd may
 
 -- a disk without a layout can't be checked
-no_layout : (A : Type 0) (image : List (List ℕ)) (fault : StoreFault) → IsOfCheck fault → Fails fault (checked_in A image) → Fails fault (layout_in image)
+no_layout : (A : Type 0) (image : List (List ℕ)) (fault : StoreFault) → IsNoDamage fault → Fails fault (checked_in A image) → Fails fault (layout_in image)
 unfolding checked_in
 no_layout A image fault may is = first_fails _ (layout_in image) fault may is
 
 -- nor does it open
-unlabelled : (A : Type 0) (image : List (List ℕ)) (fault : StoreFault) → IsOfCheck fault → Fails fault (layout_in image) → Fails fault (opens A image)
+unlabelled : (A : Type 0) (image : List (List ℕ)) (fault : StoreFault) → IsNoDamage fault → Fails fault (layout_in image) → Fails fault (opens A image)
 unfolding opens
 unlabelled A image Unformatted may is = let none : layout_in image ≡ Err Unformatted = is in rw none refl
 unlabelled A image BadGeometry may is = let none : layout_in image ≡ Err BadGeometry = is in rw none refl
@@ -61,14 +56,49 @@ unlabelled A image NoMemory may is = tt
 unlabelled A image EpochsUsedUp may is = absurd may
 unlabelled A image Unready may is = absurd may
 
--- a disk that can't be checked does not open
-pub unchecked : (A : Type 0) (image : List (List ℕ)) (fault : StoreFault) → IsOfCheck fault → Fails fault (checked_in A image) → Fails fault (opens A image)
-unchecked A image fault may is = unlabelled A image fault may (no_layout A image fault may is)
+-- a fault of a check, where damage is no fault
+pub no_damage : (fault : StoreFault) → IsOfOpening fault → IsNoDamage (without_damage fault)
+no_damage Unformatted may = tt
+no_damage BadGeometry may = tt
+no_damage (Damaged at) may = tt
+no_damage DiskFault may = tt
+no_damage Broken may = absurd may
+no_damage NoMemory may = tt
+no_damage EpochsUsedUp may = absurd may
+no_damage Unready may = absurd may
 
--- What is said of a disk after calls that only read holds of it before them. now and then are whether it is honest before and after.
-module _ (A : Type 0) (now then : Type 0) (old mid : List (List ℕ)) (goes : now → then) (same : now → mid ≡ old) where
+-- a disk that can't be checked does not open
+pub unchecked : (A : Type 0) (image : List (List ℕ)) (fault : StoreFault) → IsOfOpening fault → IsCheckOf A image (Err fault)
+    → Fails (without_damage fault) (opens A image)
+unchecked A image Unformatted may is = unlabelled A image Unformatted tt (no_layout A image Unformatted tt is)
+unchecked A image BadGeometry may is = unlabelled A image BadGeometry tt (no_layout A image BadGeometry tt is)
+unchecked A image (Damaged at) may is = tt
+unchecked A image DiskFault may is = tt
+unchecked A image Broken may is = absurd may
+unchecked A image NoMemory may is = tt
+unchecked A image EpochsUsedUp may is = absurd may
+unchecked A image Unready may is = absurd may
+
+-- it is the device's only if that failed
+pub of_device : (fault : StoreFault) → without_damage fault ≡ DiskFault → fault ≡ DiskFault
+of_device Unformatted is = is
+of_device BadGeometry is = is
+of_device (Damaged at) is = absurd cc
+of_device DiskFault is = is
+of_device Broken is = is
+of_device NoMemory is = is
+of_device EpochsUsedUp is = is
+of_device Unready is = is
+
+-- the line of what is left, where that was found
+pub reported_some : (A : Type 0) (checked : Checked) (found : Option (Rest A)) (rest : Rest A) (out : List ℕ) (whole : Bool) (disk : View) → found ≡ Some rest
+    → IsRestReportedOn A checked (line_of_found found) out whole disk → IsRestReportedOn A checked (line_of rest) out whole disk
+reported_some A checked found rest out whole disk is said = subst (λ (f : Option (Rest A)). IsRestReportedOn A checked (line_of_found f) out whole disk) is said
+
+-- What is said of a disk after calls that only read holds of it before them.
+module _ (A : Type 0) (old mid : View) (goes : old.honest → mid.honest) (same : old.honest → mid.reads ≡ old.reads) where
   pub reported_before : (checked : Checked) (line out : List ℕ) (whole : Bool)
-      → IsRestReportedOn A checked then mid line out whole → IsRestReportedOn A checked now old line out whole
+      → IsRestReportedOn A checked line out whole mid → IsRestReportedOn A checked line out whole old
   reported_before checked line out whole is = record {
     lines = is.lines;
     well = is.well;
@@ -83,36 +113,37 @@ module _ (A : Type 0) (now then : Type 0) (old mid : List (List ℕ)) (goes : no
     judged = is.judged;
   }
 
-  pub text_before : (line : List ℕ) (before after : Option (List ℕ)) (Written : List ℕ → Type 0) (Unchanged : Type 0)
-      → IsRestText A then mid line before after Written Unchanged → IsRestText A now old line before after Written Unchanged
-  text_before line before after Written Unchanged (inl is) = inl (record {
-    side = is.side;
-    epoch = is.epoch;
-    out = is.out;
-    register = is.register;
-    bad = is.bad;
-    later = is.later;
-    left = λ honest. subst (λ (i : List (List ℕ)). IsRestOf A i is.side is.epoch is.out is.register is.bad) (same honest) (is.left (goes honest));
-    line_is = is.line_is;
-    dumped = is.dumped;
-    written = is.written;
-  })
-  text_before line before after Written Unchanged (inr is) = inr (record {
-    none = λ honest. subst (λ (i : List (List ℕ)). HasNoRest A i) (same honest) (is.none (goes honest));
-    line_is = is.line_is;
-    same = is.same;
-  })
+  module _ {W : Type 0} (contents : W → Option (List ℕ)) (took : W → List ℕ → W → Type 0) (flushed : W → W → Type 0) (before after : W) where
+    pub text_before : (line : List ℕ) → IsRestText A contents took flushed before after line mid → IsRestText A contents took flushed before after line old
+    text_before line (inl is) = inl (record {
+      side = is.side;
+      epoch = is.epoch;
+      out = is.out;
+      register = is.register;
+      bad = is.bad;
+      later = is.later;
+      left = λ honest. subst (λ (i : List (List ℕ)). IsRestOf A i is.side is.epoch is.out is.register is.bad) (same honest) (is.left (goes honest));
+      follow = λ honest. subst (λ (i : List (List ℕ)). AreLaterOnDisk A i is.side is.bad is.later) (same honest) (is.follow (goes honest));
+      line_is = is.line_is;
+      dumped = is.dumped;
+      written = is.written;
+    })
+    text_before line (inr is) = inr (record {
+      none = λ honest. subst (λ (i : List (List ℕ)). HasNoRest A i) (same honest) (is.none (goes honest));
+      line_is = is.line_is;
+      same = is.same;
+    })
 
-pub why_before : (A : Type 0) (Unwritten : List ℕ → DumpFault → Type 0) (old mid new : View) → old.failures ≤ mid.failures
-    → (old.honest → mid.honest) → (old.honest → mid.reads ≡ old.reads)
-    → (fault : DiskDumpFault) → HasNoRestText A Unwritten mid new fault → HasNoRestText A Unwritten old new fault
-why_before A Unwritten old mid new later goes same (dump.Opening fault) is = record {
+pub why_before : (A : Type 0) {W : Type 0} (took : W → List ℕ → W → Type 0) (failed : W → W → Type 0) (before after : W) (old mid new : View)
+    → old.failures ≤ mid.failures → (old.honest → mid.honest) → (old.honest → mid.reads ≡ old.reads)
+    → (fault : DiskDumpFault) → HasNoRestText A took failed before after mid new fault → HasNoRestText A took failed before after old new fault
+why_before A took failed before after old mid new later goes same (dump.Opening fault) is = record {
   kind = is.kind;
   there = λ honest. subst (λ (i : List (List ℕ)). Fails fault (opens A i)) (same honest) (is.there (goes honest));
   device = λ failed. has_failed old mid new later (is.device failed);
   memory = λ failed honest. tt;
 }
-why_before A Unwritten old mid new later goes same (dump.Writing fault) is = record {
+why_before A took failed before after old mid new later goes same (dump.Writing fault) is = record {
   side = is.side;
   epoch = is.epoch;
   out = is.out;

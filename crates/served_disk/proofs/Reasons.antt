@@ -1,12 +1,9 @@
 -- Why a call of a disk was refused.
-use Rattle.std.proofs.Common.{◌≡◌, ◌∙◌, ◌≤◌, ℕ, List, refl, Result, Ok, Err, IfErr, IfOk, OnOk, is_ok, is_err, true, ap, arith, inl, inr, subst, sym}
+use Rattle.std.proofs.Common.{◌≡◌, ◌∙◌, ◌≤◌, ℕ, List, refl, Result, Ok, Err, IfErr, OnOk, is_ok, is_err, true, ap, arith, inl, inr, subst, sym}
 use mathlib.Core.Bool.{false≢true}
 use Rattle.sector_disk.specs.Disk.{View, HasFailed}
 use Rattle.recovery.specs.declared.fault.StoreFault.{StoreFault}
-use Rattle.recovery.specs.declared.fault.StoreFault.TheVariants.{BadGeometry, Broken, Damaged, DiskFault, EpochsUsedUp, NoMemory, Unformatted, Unready}
-use Rattle.recovery.specs.Checking.{IsOfCheck}
-use Rattle.recovery.specs.Damage.{IsOfDamage}
-use Rattle.recovery.specs.Opening.{Fails}
+use Rattle.recovery.specs.declared.fault.StoreFault.TheVariants.{DiskFault, NoMemory}
 use Rattle.file_disk.specs.declared.fault.FileFault.{FileFault}
 use Rattle.file_disk.specs.declared.fault.FileFault.TheVariants as file
 use Rattle.file_disk.specs.declared.fault.OpenCause.{OpenCause}
@@ -32,42 +29,10 @@ on_ok {E = E} {P = P} r x is said = subst (λ s. OnOk s P) is said
 pub passed : {X E : Type 0} (P : E → Type 0) (r : Result X E) (e : E) → r ≡ Err e → P e → IfErr r P
 passed P r e out is = subst (λ s. IfErr s P) (sym out) is
 
--- what follows from what a clause says of a value
-pub of_value : {X E : Type 0} {P Q : X → Type 0} (r : Result X E) → IfOk r P → ((x : X) → P x → Q x) → IfOk r Q
-of_value (Ok x) p goes = goes x p
-of_value (Err e) p goes = tt
-
--- what follows from what two clauses say of an error
-pub of_error : {X E : Type 0} {P Q R : E → Type 0} (r : Result X E) → IfErr r P → IfErr r Q → ((e : E) → P e → Q e → R e) → IfErr r R
-of_error (Ok x) p q goes = tt
-of_error (Err e) p q goes = goes e p q
-
 -- a device that has failed later has failed
 pub has_failed : (a b c : View) → a.failures ≤ b.failures → HasFailed b c → HasFailed a c
 has_failed a b c later (inl more) = inl (omega (arith, later, more))
 has_failed a b c later (inr most) = inr most
-
--- a fault of looking for damage is one of a check
-pub of_check : (fault : StoreFault) → IsOfDamage fault → IsOfCheck fault
-of_check Unformatted is = absurd is
-of_check BadGeometry is = absurd is
-of_check (Damaged at) is = absurd is
-of_check DiskFault is = tt
-of_check Broken is = absurd is
-of_check NoMemory is = tt
-of_check EpochsUsedUp is = absurd is
-of_check Unready is = absurd is
-
--- and says nothing of what is there
-pub says_nothing : {Y : Type 0} (fault : StoreFault) (there : Result Y StoreFault) → IsOfDamage fault → Fails fault there
-says_nothing Unformatted there is = absurd is
-says_nothing BadGeometry there is = absurd is
-says_nothing (Damaged at) there is = absurd is
-says_nothing DiskFault there is = tt
-says_nothing Broken there is = absurd is
-says_nothing NoMemory there is = tt
-says_nothing EpochsUsedUp there is = absurd is
-says_nothing Unready there is = absurd is
 
 -- a disk that was not formatted
 pub unmade : (done : Result Unit StoreFault) (fault : Fault) (old new : View) → is_err done ≡ true → IfErr done (λ e. fault ≡ of_store e)

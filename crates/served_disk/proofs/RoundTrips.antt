@@ -7,8 +7,6 @@ use Rattle.centre_core.specs.State.{IsState, State}
 use Rattle.centre_core.specs.StateRanges.{StateInRange}
 use Rattle.sector_disk.specs.Disk.{View}
 use Rattle.checkpoint.specs.Layout.{half_at}
-use Rattle.checkpoint.specs.OnSide.{InEach}
-use Rattle.checkpoint.specs.declared.layout.Layout.{Layout}
 use Rattle.checkpoint.specs.declared.side.Side.TheVariants as side
 use Rattle.image_rows.specs.Loading.{state_of_rows}
 use Rattle.image_rows.specs.Rows.{rows_of}
@@ -17,9 +15,7 @@ use Rattle.register_text.specs.Dump.{IsAll, IsLoadFault, IsOfPlace, register_byt
 use Rattle.register_text.specs.Text.{IsUnder, state_of}
 use Rattle.register_text.specs.declared.load_fault.LoadFault.{LoadFault}
 use Rattle.register_text.specs.declared.load_fault.LoadFault.TheVariants as load
-use Rattle.served_disk.specs.Dumping.{IsDumpedBy}
-use Rattle.served_disk.specs.Making.{IsMadeFor}
-use Rattle.served_disk.specs.RoundTrip.{HasNoPlace, IsSameUnder}
+use Rattle.served_disk.specs.RoundTrip.{Copy, HasNoPlace, IsOfDump, KeepsRegister, ReadsBack}
 
 one_state : (s t : State) → ◌≡◌ {A = Result State LoadFault} (Ok s) (Ok t) → s ≡ t
 one_state s t same = cc
@@ -34,28 +30,33 @@ held_text before after None bytes text wrote none same all = absurd (no_text aft
 held_text before after (Some left) bytes text wrote none same all =
     sym all ∙ subst (λ (a : Option (List ℕ)). Appends (Some []) a bytes) (sym same) (subst (λ (b : Option (List ℕ)). Appends b after bytes) none wrote)
 
--- the text of a register was read as one
-pub made_of : (A : Type 0) (Again : (s : State) → IsState s → StateInRange s → text_read s.registered.limits (register_bytes s) ≡ Ok s)
-    (Under : (limits : Limits) (s t : State) → IsState s → StateInRange s → text_read limits (register_bytes s) ≡ Ok t → IsUnder limits (rows_of 1 s) t)
-    (honest : Type 0) (image : List (List ℕ)) (before after : Option (List ℕ)) (Written : List ℕ → Type 0) (is : honest) (dumped : IsDumpedBy A honest image before after Written)
-    (layout : Layout) (text : List ℕ) (register : State) (disk : View) → text ≡ register_bytes dumped.register → text_read layout.limits text ≡ Ok register → IsMadeFor A layout register disk
-    → InEach disk (IsSameUnder A layout.limits image)
-made_of A Again Under honest image before after Written is dumped layout text register disk same read made new at =
-    let s = dumped.register in
-    let of : text_read layout.limits (register_bytes s) ≡ Ok register = ap (text_read layout.limits) (sym same) ∙ read in
-    let so = dumped.dumped in
-    record {
-      dumped = s;
-      loaded = register;
-      opened = dumped.kept is;
-      opens = record { opening = opening layout side.A 1 (half_at layout side.A) register; opens = made.opens_to new at; same = refl };
-      rows = Under layout.limits s register so.state so.ranges of;
-      own = λ own. one_state register s (sym of ∙ ap (λ (l : Limits). text_read l (register_bytes s)) own ∙ Again s so.state so.ranges);
-    }
+module _ {A D W : Type 0} {view : D → View} {contents : W → Option (List ℕ)} {took : W → List ℕ → W → Type 0} {flushed : W → W → Type 0}
+    (copy : Copy A view contents took flushed) where
+  -- the text of a register was read as one
+  pub made_of : ((s : State) → IsState s → StateInRange s → text_read s.registered.limits (register_bytes s) ≡ Ok s)
+      → ((limits : Limits) (s t : State) → IsState s → StateInRange s → text_read limits (register_bytes s) ≡ Ok t → IsUnder limits (rows_of 1 s) t)
+      → IsOfDump copy → KeepsRegister copy
+  made_of again under same new at =
+      let s = copy.dump.dumped.register in
+      let register = copy.made.register in
+      let limits = copy.layout.limits in
+      let of : text_read limits (register_bytes s) ≡ Ok register = ap (text_read limits) (sym same) ∙ copy.made.read in
+      let so = copy.dump.dumped.dumped in
+      record {
+        dumped = s;
+        loaded = register;
+        opened = copy.dump.dumped.kept copy.dump.honest;
+        opens = record { opening = opening copy.layout side.A 1 (half_at copy.layout side.A) register; opens = copy.made.made.opens_to new at; same = refl };
+        rows = under limits s register so.state so.ranges of;
+        own = λ own. one_state register s (sym of ∙ ap (λ (l : Limits). text_read l (register_bytes s)) own ∙ again s so.state so.ranges);
+      }
 
-pub known_of : (before after known : Option (List ℕ)) (A : Type 0) (honest : Type 0) (image : List (List ℕ)) (Written : List ℕ → Type 0) (dumped : IsDumpedBy A honest image before after Written) (text : List ℕ)
-    → before ≡ Some [] → known ≡ after → IsAll known text → text ≡ register_bytes dumped.register
-known_of before after known A honest image Written dumped text none same all = held_text before after known (register_bytes dumped.register) text dumped.dumped.written none same all
+  -- a reader that gives what the writer holds gives the text that was dumped
+  pub known_of : (given : Option (List ℕ)) → ReadsBack copy given → IsOfDump copy
+  known_of given back =
+      let dumped = copy.dump.dumped in
+      held_text (contents copy.dump.before) (contents copy.dump.after) given (register_bytes dumped.register) copy.text dumped.dumped.written
+      back.nothing back.same back.all
 
 none_of : (o : Option (ℕ × State)) (made : Result State LoadFault) (fault : LoadFault) → result_ok made ≡ state_of o → made ≡ Err fault → o ≡ None
 none_of None made fault same is = refl

@@ -1,5 +1,6 @@
 -- The texts and the ends of stations, one station more.
-use Rattle.std.proofs.Common.{◌≡◌, ◌∙◌, ℕ, ◌+◌, ◌<◌, ◌++◌, ◌∷◌, ◌||◌, [], Bool, true, List, Option, Some, Result, Ok, Err, Vec, length, take, get_or, refl, ap, sym, subst, append_assoc, append-nil, length-take-le, arith}
+use Rattle.std.proofs.Common.{◌≡◌, ◌∙◌, ℕ, ◌+◌, ◌<◌, ◌++◌, ◌∷◌, ◌||◌, [], Bool, true, List, Option, Some, Result, Ok, Err, Vec, length, take, get_or}
+use Rattle.std.proofs.Common.{refl, ap, sym, subst, append_assoc, append-nil, length-take-le, arith}
 use Rattle.std.specs.Prelude.{All, is_ok, slice_get}
 use Rattle.std.specs.declared.alloc.Global.{Global}
 use Rattle.std.specs.List.{list_any}

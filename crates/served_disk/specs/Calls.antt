@@ -1,23 +1,45 @@
--- The calls that the program makes on the disk in a file.
-use Rattle.std.specs.Prelude.{◌≡◌, ◌⊎◌, false, List, [], ◌∷◌, ◌++◌}
+-- The calls that the program makes on a disk: on one that it is given, and on the one in a file.
+use Rattle.std.specs.Prelude.{◌≡◌, ◌⊎◌, false, IfSome, List, [], ◌∷◌, ◌++◌, None}
+use Rattle.sector_disk.specs.Disk.{View}
+use Rattle.sector_disk.specs.Numbers.{Byte, Sectors}
 use Rattle.sector_disk.specs.Reading.{before_reads}
 use Rattle.sector_disk.specs.declared.record.Call.{Call}
 use Rattle.sector_disk.specs.declared.record.Call.TheVariants.{Sync}
-use Rattle.sector_disk.specs.Numbers.{Sectors}
 use Rattle.file_disk.specs.declared.disk.FileDisk.{FileDisk}
 use Rattle.file_disk.specs.Disk.{blank_calls, calls_of, is_lost}
 use Rattle.checkpoint.specs.Layout.{disk_size}
 use Rattle.checkpoint.specs.declared.layout.Layout.{Layout}
 use Rattle.served_disk.specs.declared.fault.Fault.{Fault}
 use Rattle.served_disk.specs.declared.fault.Fault.TheVariants.{Device}
+use Rattle.served_disk.specs.declared.refused.Refused.{Refused}
+use Rattle.served_disk.specs.Making.{IsOfTaking}
 
--- the calls of a disk that is read: one sync, and after it only reads
+-- ---- reading
+
+-- a disk was read: after its earlier calls it has had one sync, and then only reads
+abbrev pub WasRead : View → View → Type 0
+WasRead old new = before_reads new.calls ≡ old.calls ++ Sync ∷ []
+
+-- A disk was read, or a call that was to read it was refused before that. Then it has had no call, and Fails is so: the sync failed.
+abbrev pub WasReadAtMost : Type 0 → View → View → Type 0
+WasReadAtMost Fails old new = WasRead old new ⊎ (Fails × (new.calls ≡ old.calls))
+
+-- all calls of a disk that was opened and read: one sync, and after it only reads
 abbrev pub IsOnlyRead : List Call → Type 0
 IsOnlyRead calls = before_reads calls ≡ Sync ∷ []
 
--- the same after a fault; if the sync failed, there may have been no call
+-- all calls of a disk that was opened, and of which this fault is reported: it was only read, or the sync failed and there was no call
 abbrev pub IsReadAtMost : Fault → List Call → Type 0
 IsReadAtMost fault calls = IsOnlyRead calls ⊎ ((fault ≡ Device) × (calls ≡ []))
+
+-- A call that only reads the disk in the file of this name was refused, for a reason that it may have. If the disk comes back, it was read at
+-- most. If none does, the file was not taken as a disk.
+pub record IsReadRefused {F : Type 0} (May : List Byte → Fault → Type 0) (name : List Byte) (e : Refused F) : Type 0 where
+  pub kinds : May name e.fault
+  pub some_calls : IfSome e.disk (λ disk. IsReadAtMost e.fault (calls_of disk))
+  pub none : e.disk ≡ None → IsOfTaking name e.fault
+
+-- ---- making
 
 -- a disk in a new file: zeros were written into each of so many sectors, then they were synced, and nothing has failed
 pub record IsBlankOf {F : Type 0} (sectors : Sectors) (disk : FileDisk F) : Type 0 where
@@ -33,3 +55,7 @@ making_calls layout calls = blank_calls (disk_size layout) ++ calls
 -- a prefix of these calls
 abbrev pub IsPartlyMade : List Call → List Call → Type 0
 IsPartlyMade all calls = (left : List Call) × (all ≡ calls ++ left)
+
+-- if the disk comes back, it has had a prefix of these calls
+abbrev pub HasPartOf : {F : Type 0} → List Call → Refused F → Type 0
+HasPartOf all e = IfSome e.disk (λ disk. IsPartlyMade all (calls_of disk))

@@ -1,6 +1,7 @@
 -- What `check` prints of a disk: a line for each side, or for each damaged sector of it and for what it loses, and one for the whole.
 use Rattle.std.specs.Prelude.{◌≡◌, ◌||◌, Bool, true, false, not, List, ◌++◌, Ok, Err, codes, decimal}
 use Rattle.std.specs.List.{flat_map}
+use Rattle.sector_disk.specs.Disk.{View}
 use Rattle.sector_disk.specs.Numbers.{Byte, Sector}
 use Rattle.checkpoint.specs.declared.side.Side.{Side}
 use Rattle.checkpoint.specs.declared.side.Side.TheVariants as side
@@ -89,16 +90,16 @@ pub record IsReported (checked : Checked) (a b : List Damage) (out : List Byte) 
   pub written : out ≡ checked_text checked a b
   pub judged : well ≡ is_well (has_damage checked) (opened_by checked.a checked.b)
 
--- the same with the damage of a disk; if it is honest, that is the damage of its image
-pub record IsReportedOn (A : Type 0) (checked : Checked) (honest : Type 0) (image : List (List Byte)) (out : List Byte) (well : Bool) : Type 0 where
+-- The lines of what a check found, and whether it is well, with damage that was looked for. If the disk is honest, that is the damage of its image.
+pub record IsReportedOn (A : Type 0) (checked : Checked) (out : List Byte) (well : Bool) (disk : View) : Type 0 where
   pub a : List Damage
   pub b : List Damage
-  pub damage_a : honest → a ≡ damage_in A checked.layout side.A image checked.a
-  pub damage_b : honest → b ≡ damage_in A checked.layout side.B image checked.b
+  pub damage_a : disk.honest → a ≡ damage_in A checked.layout side.A disk.reads checked.a
+  pub damage_b : disk.honest → b ≡ damage_in A checked.layout side.B disk.reads checked.b
   pub reported : IsReported checked a b out well
 
--- the same of a disk; if it is honest, that is what a check of its image gives
-pub record IsReportedBy (A : Type 0) (honest : Type 0) (image : List (List Byte)) (out : List Byte) (well : Bool) : Type 0 where
+-- The lines of a check, and whether the disk is well. If the disk is honest, a check of its image finds what they say.
+pub record IsReportedBy (A : Type 0) (out : List Byte) (well : Bool) (disk : View) : Type 0 where
   pub checked : Checked
-  pub found : honest → checked_in A image ≡ Ok checked
-  pub reported : IsReportedOn A checked honest image out well
+  pub found : disk.honest → checked_in A disk.reads ≡ Ok checked
+  pub reported : IsReportedOn A checked out well disk

@@ -10,6 +10,7 @@ use Rattle.recovery.specs.Opening.{IsOfOpening as IsOfStoreOpening}
 use Rattle.recovery.specs.OpensTo.{OpensTo}
 use Rattle.register_text.specs.declared.dumping.DumpFault.{DumpFault}
 use Rattle.register_text.specs.Dump.{register_bytes}
+use Rattle.register_text.specs.Passing.{IsUnwritten, IsWritten}
 use Rattle.served_disk.specs.declared.dumping.DiskDumpFault.{DiskDumpFault}
 use Rattle.served_disk.specs.declared.dumping.DiskDumpFault.TheVariants as dump
 use Rattle.served_disk.specs.declared.fault.Fault.{Fault}
@@ -23,28 +24,32 @@ pub record IsDumped (before after : Option (List Byte)) (s : State) : Type 0 whe
   pub ranges : StateInRange s
   pub written : Appends before after (register_bytes s)
 
--- The text of a register was written, as the contents of the writer say where they are known, and as its calls say. If the disk is honest,
--- the register is the one that the disk's image opens to.
-pub record IsDumpedBy (A : Type 0) (honest : Type 0) (image : List (List Byte)) (before after : Option (List Byte)) (Written : List Byte → Type 0) : Type 0 where
-  pub register : State
-  pub kept : honest → OpensTo A register image
-  pub dumped : IsDumped before after register
-  pub written : Written (register_bytes register)
+-- Of a writer, given are what is known of its contents, and the relations between it before and after it takes bytes and is flushed.
+module _ (A : Type 0) {W : Type 0} (contents : W → Option (List Byte)) (took : W → List Byte → W → Type 0) (flushed : W → W → Type 0) (before after : W) where
+  -- The text of a register was written, as the contents of the writer say where they are known, and as its calls say. If the disk is honest,
+  -- the register is the one that the disk's image opens to.
+  pub record IsDumpedBy (disk : View) : Type 0 where
+    pub register : State
+    pub kept : disk.honest → OpensTo A register disk.reads
+    pub dumped : IsDumped (contents before) (contents after) register
+    pub written : IsWritten took flushed (register_bytes register) before after
 
--- the text of a register was not written, for this reason; the register likewise
-pub record IsUnwrittenBy (A : Type 0) (honest : Type 0) (image : List (List Byte)) (Unwritten : List Byte → DumpFault → Type 0) (fault : DumpFault) : Type 0 where
-  pub register : State
-  pub kept : honest → OpensTo A register image
-  pub unwritten : Unwritten (register_bytes register) fault
+-- Of a writer, given are the relations between it before and after it takes bytes and fails.
+module _ (A : Type 0) {W : Type 0} (took : W → List Byte → W → Type 0) (failed : W → W → Type 0) (before after : W) where
+  -- The text of a register was not written, for this reason. If the disk is honest, the register is the one that the disk's image opens to.
+  pub record IsUnwrittenBy (disk : View) (fault : DumpFault) : Type 0 where
+    pub register : State
+    pub kept : disk.honest → OpensTo A register disk.reads
+    pub unwritten : IsUnwritten took failed (register_bytes register) before after fault
 
--- the disk was not opened, for this reason; or the text of its register was not written, for this one
-abbrev pub IsUndumped : (A : Type 0) → (List Byte → DumpFault → Type 0) → View → View → DiskDumpFault → Type 0
-IsUndumped A Unwritten old new (dump.Opening fault) = IsUnopened A old new fault
-IsUndumped A Unwritten old new (dump.Writing fault) = IsUnwrittenBy A old.honest old.reads Unwritten fault
+  -- the disk was not opened, for this reason; or the text of its register was not written, for this one
+  abbrev pub IsUndumped : View → View → DiskDumpFault → Type 0
+  IsUndumped old new (dump.Opening fault) = IsUnopened A old new fault
+  IsUndumped old new (dump.Writing fault) = IsUnwrittenBy old fault
 
--- the fault that is reported for one of which this holds
-abbrev pub ReportsDump : (DiskDumpFault → Type 0) → Fault → Type 0
-ReportsDump P fault = (reason : DiskDumpFault) × P reason × IsOfDump reason fault
+-- the fault that is reported for one for which a dump was refused, between these views of its disk
+abbrev pub ReportsDump : (View → View → DiskDumpFault → Type 0) → View → View → Fault → Type 0
+ReportsDump Why old new fault = (reason : DiskDumpFault) × Why old new reason × IsOfDump reason fault
 
 -- a fault of opening is one that an opening may have
 abbrev pub IsOfDumping : DiskDumpFault → Type 0

@@ -1,5 +1,5 @@
 -- The lines and the exit statuses of faults, and which fault is reported for the fault of a part.
-use Rattle.std.specs.Prelude.{◌≡◌, ℕ, List, [], ◌++◌, None, Option, Some, codes, decimal}
+use Rattle.std.specs.Prelude.{◌≡◌, ℕ, List, [], ◌++◌, MatchResult, None, Option, Result, Some, codes, decimal}
 use Rattle.std.specs.Borrow.{Bor}
 use Rattle.console.specs.declared.running.RunFault.{RunFault}
 use Rattle.console.specs.declared.running.RunFault.TheVariants as run
@@ -43,7 +43,7 @@ dump_cause_text cause.Place = codes "place"
 abbrev pub dump_line_number_text : ℕ → List Byte
 dump_line_number_text line = codes "fault: dump line " ++ decimal line ++ codes ": "
 
--- the same, and what is wrong with it
+-- which line of a dump can't be taken, and what is wrong with it
 abbrev pub dump_line_text : ℕ → List Byte → List Byte
 dump_line_text line what = dump_line_number_text line ++ (what ++ codes "\n")
 
@@ -89,6 +89,10 @@ fault_status (fault.DumpCut line) = 3
 abbrev pub Names : Fault → List Byte → OpenCause → Type 0
 Names (fault.File name cause) text given = (name.now ≡ text) × (cause ≡ given)
 Names other text given = ⊥
+
+-- a call gives a value of which this holds; or memory ran out
+abbrev pub OrMemory : {X : Type 0} → Result X Fault → (X → Type 0) → Type 0
+OrMemory result P = MatchResult result P (λ e. e ≡ fault.Memory)
 
 -- ---- the fault that is reported
 

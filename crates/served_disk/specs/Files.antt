@@ -1,8 +1,11 @@
 -- Why the files of a run's stations are not served.
-use Rattle.std.specs.Prelude.{◌≡◌, ◌⊎◌, ◌-◌, ◌&&◌, ◌||◌, Bool, not, codes, filter, find, if◌then◌else◌, map, nat_lt, List, [], MatchBool, None, Option, Some, slice_get, ℕ}
+use Rattle.std.specs.Prelude.{◌≡◌, ◌⊎◌, ◌-◌, ◌&&◌, ◌||◌, Bool, not, codes, filter, find, if◌then◌else◌, map, nat_lt, All, Err, List, [], MatchBool, None, Ok, Option, Result, Some, slice_get, take, ℕ}
 use Rattle.std.specs.List.{list_any}
 use Rattle.std.specs.Str.{bytes_eq}
 use Rattle.std.specs.Borrow.{Bor}
+use Rattle.std.specs.IoError.{error_kind}
+use Rattle.std.specs.declared.fs.File.{File}
+use Rattle.std.specs.declared.io.Error.{Error}
 use Rattle.std.specs.declared.io.ErrorKind.{ErrorKind}
 use Rattle.sector_disk.specs.Numbers.{Byte}
 use Rattle.file_disk.specs.Fault.{is_memory, open_cause}
@@ -26,10 +29,19 @@ IsOfNames names other = ⊥
 abbrev pub IsNotRead : ErrorKind → List Byte → Fault → Type 0
 IsNotRead kind name is = MatchBool (is_memory kind) (is ≡ fault.Memory) (Names is name (open_cause kind))
 
--- of opening them: memory ran out, or this is why one of them was not opened
-abbrev pub IsOfFiles : List (Bor (List Byte)) → Fault → Type 0
-IsOfFiles names is =
-    (is ≡ fault.Memory) ⊎ ((place : Place) × (name : Bor (List Byte)) × (kind : ErrorKind) × IsAt names place name × IsNotRead kind name.now is)
+-- Why the first of these files that was not opened was not. Given is what opening the file of a name answers.
+pub record IsFirstUnopened (opened : List Byte → Result File Error → Type 0) (names : List (Bor (List Byte))) (is : Fault) : Type 0 where
+  pub place : Place
+  pub name : Bor (List Byte)
+  pub error : Error
+  pub at : IsAt names place name
+  pub before : All (λ (earlier : Bor (List Byte)). (file : File) × opened earlier.now (Ok file)) (take (place - 1) names)
+  pub failed : opened name.now (Err error)
+  pub reported : IsNotRead (error_kind error) name.now is
+
+-- of opening them: memory ran out, or this is why the first that was not opened was not
+abbrev pub IsOfFiles : (List Byte → Result File Error → Type 0) → List (Bor (List Byte)) → Fault → Type 0
+IsOfFiles opened names is = (is ≡ fault.Memory) ⊎ IsFirstUnopened opened names is
 
 -- the first station that is named for orders and has no place among so many that are served
 abbrev pub not_served : ℕ → List ℕ → Option ℕ

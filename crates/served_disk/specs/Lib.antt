@@ -1,4 +1,5 @@
 pub mod Calls
+pub mod Counts
 pub mod Dumping
 pub mod Faults
 pub mod Files
@@ -6,6 +7,7 @@ pub mod Loading
 pub mod Making
 pub mod Named
 pub mod Notices
+pub mod Pairs
 pub mod Refusals
 pub mod Rests
 pub mod RoundTrip
@@ -14,4 +16,5 @@ pub mod Checking
 pub mod Losses
 pub mod Stations
 pub mod Synced
+pub mod Systems
 pub mod Printing

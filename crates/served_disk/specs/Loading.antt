@@ -1,13 +1,26 @@
 -- Why no register is loaded from a dump.
-use Rattle.std.specs.Prelude.{◌≡◌, List, Result, Err}
+use Rattle.std.specs.Prelude.{◌≡◌, List, Option, Some, Result, Ok, Err}
 use Rattle.file_disk.specs.declared.fault.OpenCause.TheVariants.{Other}
-use Rattle.centre_core.specs.State.{State}
+use Rattle.registration.specs.declared.limits.Limits.{Limits}
+use Rattle.centre_core.specs.State.{IsState, State}
+use Rattle.centre_core.specs.StateRanges.{StateInRange}
 use Rattle.sector_disk.specs.Numbers.{Byte}
+use Rattle.register_text.specs.Dump.{register_bytes, text_read}
 use Rattle.register_text.specs.declared.load_fault.LoadFault.{LoadFault}
 use Rattle.register_text.specs.declared.load_fault.LoadFault.TheVariants as load
 use Rattle.served_disk.specs.declared.fault.Fault.{Fault}
 use Rattle.served_disk.specs.declared.fault.Fault.TheVariants as fault
 use Rattle.served_disk.specs.Faults.{IsOfLoad}
+
+-- what a reader gives is the text of a register, which is this one
+pub record IsDumpOf (s : State) (given : Option (List Byte)) : Type 0 where
+  pub state : IsState s
+  pub ranges : StateInRange s
+  pub text : given ≡ Some (register_bytes s)
+
+-- the register is the one that is read, under these limits, in a text of which this holds
+abbrev pub IsReadIn : (List Byte → Type 0) → Limits → State → Type 0
+IsReadIn P limits register = (text : List Byte) × P text × (text_read limits text ≡ Ok register)
 
 -- why none is loaded from the file of this name: a line of the dump, or its end; the file was not read, or memory ran out
 abbrev pub IsOfLoading : List Byte → Fault → Type 0

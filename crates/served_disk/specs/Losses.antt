@@ -54,6 +54,6 @@ abbrev pub loss_by : Bool → List Damage → List Byte
 loss_by true damaged = codes " loses all\n"
 loss_by false damaged = rows_text damaged ++ records_text (records_from damaged)
 
--- the same with the side's name before it
+-- the line of what a side loses: its name, and then what it loses
 abbrev pub loss_line : Side → List Damage → List Byte
 loss_line side damaged = codes "side " ++ side_text side ++ loss_by (loses_all damaged) damaged

@@ -1,10 +1,11 @@
 -- What a service reports on standard error.
-use Rattle.std.specs.Prelude.{◌++◌, ◌-◌, ℕ, List, Option, None, codes, decimal, filter, if◌then◌else◌, length, nat_eq, nat_lt, option_map, slice_get}
+use Rattle.std.specs.Prelude.{◌++◌, ℕ, List, Option, codes, decimal, filter, if◌then◌else◌, length, nat_eq, option_map}
 use Rattle.registration.specs.Numbers.{Station}
 use Rattle.sector_disk.specs.Numbers.{Byte}
 use Rattle.served_disk.specs.declared.notice.Notice.{Notice}
 use Rattle.served_disk.specs.declared.notice.Notice.TheVariants as notice
 use Rattle.served_disk.specs.declared.pairs.Pair.{Pair}
+use Rattle.served_disk.specs.Counts.{at_station}
 use Rattle.served_disk.specs.Faults.{fault_text}
 
 -- the word for so many stations
@@ -36,7 +37,7 @@ served_in pairs = length (filter (λ (pair : Pair). pair.is_served) pairs)
 
 -- the pair of a station, of those of all stations
 abbrev pub pair_of : List Pair → Station → Option Pair
-pair_of pairs station = if nat_lt 0 station then slice_get pairs (station - 1) else None
+pair_of pairs station = at_station pairs station
 
 -- that the lines of this station are served, if there is one
 abbrev pub started_in : List Pair → Station → Option Notice

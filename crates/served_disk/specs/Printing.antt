@@ -23,7 +23,7 @@ sectors_text done sectors = done ++ decimal sectors ++ codes " sectors\n"
 abbrev pub formatted_text : Sectors → List Byte
 formatted_text sectors = sectors_text (codes "formatted ") sectors
 
--- the same for a register that was loaded
+-- a disk of this many sectors was made for a register that was loaded
 abbrev pub loaded_text : Sectors → List Byte
 loaded_text sectors = sectors_text (codes "loaded ") sectors
 

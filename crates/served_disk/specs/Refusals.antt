@@ -1,10 +1,12 @@
 -- Why a call of a disk was refused. A fault of what is on the disk is there, a device fault comes only if the device has failed,
 -- and out of memory hides no fault that was read.
-use Rattle.std.specs.Prelude.{◌≡◌, ◌⊎◌, true, is_ok}
+use Rattle.std.specs.Prelude.{◌≡◌, ◌⊎◌, ◌++◌, ◌∷◌, List, [], Some, None, true, is_ok}
+use Rattle.identity.specs.Numbers.{Byte}
 use Rattle.sector_disk.specs.Disk.{View, HasFailed}
+use Rattle.sector_disk.specs.declared.record.Call.TheVariants.{Sync}
 use Rattle.recovery.specs.declared.fault.StoreFault.{StoreFault}
-use Rattle.recovery.specs.declared.fault.StoreFault.TheVariants.{DiskFault, NoMemory}
-use Rattle.recovery.specs.Checking.{HasGoodSideSoFar, IsOfCheck, checked_in}
+use Rattle.recovery.specs.declared.fault.StoreFault.TheVariants.{Damaged, DiskFault, NoMemory}
+use Rattle.recovery.specs.Checking.{Finds, HasNoDamageYet, checked_in, first_damaged}
 use Rattle.recovery.specs.Opening.{Fails, HasNoFaultYet, IsOfOpening}
 use Rattle.recovery.specs.Opens.{opens}
 use Rattle.served_disk.specs.declared.fault.Fault.{Fault}
@@ -19,23 +21,36 @@ pub record HasReason (May There : StoreFault → Type 0) (NoneMet : Type 0) (old
   pub memory : fault ≡ NoMemory → old.honest → NoneMet
 
 module _ (A : Type 0) where
+  -- an opening that syncs the disk first has met no fault yet
+  abbrev pub MeetsNoFault : View → View → Type 0
+  MeetsNoFault old new = HasNoFaultYet A old.reads (old.calls ++ Sync ∷ []) new.calls
+
+  -- a check that syncs the disk first has met no damage, or has read both sides, of which neither is damaged
+  abbrev pub MeetsNoDamage : View → View → Type 0
+  MeetsNoDamage old new =
+      HasNoDamageYet A old.reads (old.calls ++ Sync ∷ []) new.calls ⊎ Finds A old.reads (λ checked. first_damaged checked.a checked.b ≡ None)
+
+  -- A fault that a check reports is there. Damage is the first damaged sector of side A, or else of side B.
+  abbrev pub FailsCheck : StoreFault → List (List Byte) → Type 0
+  FailsCheck (Damaged at) image = Finds A image (λ checked. first_damaged checked.a checked.b ≡ Some at)
+  FailsCheck other image = Fails other (checked_in A image)
+
   -- of an opening
   abbrev pub IsUnopened : View → View → StoreFault → Type 0
-  IsUnopened old new = HasReason IsOfOpening (λ fault. Fails fault (opens A old.reads)) (HasNoFaultYet A old.reads new.calls) old new
+  IsUnopened old new = HasReason IsOfOpening (λ fault. Fails fault (opens A old.reads)) (MeetsNoFault old new) old new
 
   -- of an opening whose register is then shown
   abbrev pub IsUnshown : View → View → StoreFault → Type 0
   IsUnshown old new =
-      HasReason IsOfOpening (λ fault. Fails fault (opens A old.reads)) (HasNoFaultYet A old.reads new.calls ⊎ (is_ok (opens A old.reads) ≡ true)) old new
+      HasReason IsOfOpening (λ fault. Fails fault (opens A old.reads)) (MeetsNoFault old new ⊎ (is_ok (opens A old.reads) ≡ true)) old new
 
   -- of a check
   abbrev pub IsUnchecked : View → View → StoreFault → Type 0
-  IsUnchecked old new =
-      HasReason IsOfCheck (λ fault. Fails fault (checked_in A old.reads)) (HasGoodSideSoFar A old.reads new.calls ⊎ (is_ok (checked_in A old.reads) ≡ true)) old new
+  IsUnchecked old new = HasReason IsOfOpening (λ fault. FailsCheck fault old.reads) (MeetsNoDamage old new) old new
 
--- the fault that is reported for one of which this holds
-abbrev pub Reports : (StoreFault → Type 0) → Fault → Type 0
-Reports P fault = (reason : StoreFault) × P reason × (fault ≡ of_store reason)
+-- the fault that is reported for one for which a call was refused, between these views of its disk
+abbrev pub Reports : (View → View → StoreFault → Type 0) → View → View → Fault → Type 0
+Reports Why old new fault = (reason : StoreFault) × Why old new reason × (fault ≡ of_store reason)
 
 -- a disk was not made ready, since the device has failed
 abbrev pub IsUnmade : View → View → Fault → Type 0

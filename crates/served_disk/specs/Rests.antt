@@ -4,16 +4,21 @@ use Rattle.centre_core.specs.State.{State}
 use Rattle.checkpoint.specs.declared.side.Side.{Side}
 use Rattle.image_rows.specs.Numbers.{Epoch}
 use Rattle.recovery.specs.declared.checking.Checked.{Checked}
+use Rattle.recovery.specs.declared.fault.StoreFault.{StoreFault}
+use Rattle.recovery.specs.declared.fault.StoreFault.TheVariants.{Damaged, NoMemory}
 use Rattle.recovery.specs.declared.rest.LeftOut.{LeftOut}
-use Rattle.recovery.specs.Checking.{IsOfCheck, checked_in, opened_by}
+use Rattle.recovery.specs.declared.rest.Rest.{Rest}
+use Rattle.recovery.specs.Checking.{IsNoDamage, checked_in, opened_by}
 use Rattle.recovery.specs.Opening.{Fails}
 use Rattle.recovery.specs.Opens.{opens}
-use Rattle.recovery.specs.Rests.{HasNoRest, IsRestOf}
+use Rattle.recovery.specs.Rests.{AreLaterOnDisk, HasNoRest, IsRestOf}
 use Rattle.register_text.specs.declared.dumping.DumpFault.{DumpFault}
 use Rattle.register_text.specs.Dump.{register_bytes}
+use Rattle.register_text.specs.Passing.{IsUnwritten, IsWritten}
 use Rattle.sector_disk.specs.Disk.{View}
 use Rattle.sector_disk.specs.Numbers.{Byte, Sector}
 use Rattle.served_disk.specs.declared.dumping.DiskDumpFault.{DiskDumpFault}
+use Rattle.served_disk.specs.declared.rest.RestReport.{RestReport}
 use Rattle.served_disk.specs.declared.dumping.DiskDumpFault.TheVariants as dump
 use Rattle.served_disk.specs.Checking.{IsReportedOn}
 use Rattle.served_disk.specs.Dumping.{IsDumped}
@@ -55,68 +60,97 @@ rest_line side epoch count out bad later = taken_text side epoch count ++ left_o
 abbrev pub no_rest_line : List Byte
 no_rest_line = codes "rest none\n"
 
+-- the line of what is left
+abbrev pub line_of : {A : Type 0} → Rest A → List Byte
+line_of rest = rest_line rest.side rest.epoch rest.register.count rest.left_out rest.stop rest.later
+
+-- that of what is left, if anything is
+abbrev pub line_of_found : {A : Type 0} → Option (Rest A) → List Byte
+line_of_found None = no_rest_line
+line_of_found (Some rest) = line_of rest
+
 -- ---- the report
 
 -- the lines of what a check found and then this line; and whether the disk opens
-pub record IsRestReportedOn (A : Type 0) (checked : Checked) (honest : Type 0) (image : List (List Byte)) (line out : List Byte) (whole : Bool) : Type 0 where
+pub record IsRestReportedOn (A : Type 0) (checked : Checked) (line out : List Byte) (whole : Bool) (disk : View) : Type 0 where
   pub lines : List Byte
   pub well : Bool
-  pub reported : IsReportedOn A checked honest image lines well
+  pub reported : IsReportedOn A checked lines well disk
   pub written : out ≡ lines ++ line
   pub judged : whole ≡ is_ok (opened_by checked.a checked.b)
 
--- the same of a disk; if it is honest, that is what a check of its image gives
-pub record IsRestReported (A : Type 0) (honest : Type 0) (image : List (List Byte)) (line out : List Byte) (whole : Bool) : Type 0 where
+-- The lines of a check and then this line, and whether the disk opens. If the disk is honest, a check of its image finds what they say.
+pub record IsRestReported (A : Type 0) (line out : List Byte) (whole : Bool) (disk : View) : Type 0 where
   pub checked : Checked
-  pub found : honest → checked_in A image ≡ Ok checked
-  pub reported : IsRestReportedOn A checked honest image line out whole
+  pub found : disk.honest → checked_in A disk.reads ≡ Ok checked
+  pub reported : IsRestReportedOn A checked line out whole disk
 
 -- ---- the text
 
--- This is the line of what is left, and the text of its register was written. If the disk is honest, that is what is left of its image.
-pub record IsRestDumped (A : Type 0) (honest : Type 0) (image : List (List Byte)) (line : List Byte) (before after : Option (List Byte))
-    (Written : List Byte → Type 0) : Type 0 where
-  pub side : Side
-  pub epoch : Epoch
-  pub out : LeftOut
-  pub register : State
-  pub bad : Option Sector
-  pub later : ℕ
-  pub left : honest → IsRestOf A image side epoch out register bad
-  pub line_is : line ≡ rest_line side epoch register.count out bad later
-  pub dumped : IsDumped before after register
-  pub written : Written (register_bytes register)
+-- Of a writer, given are what is known of its contents, and the relations between it before and after it takes bytes and is flushed.
+module _ (A : Type 0) {W : Type 0} (contents : W → Option (List Byte)) (took : W → List Byte → W → Type 0) (flushed : W → W → Type 0) (before after : W) where
+  -- This is the line of what is left, and the text of its register was written. If the disk is honest, that is what is left of its image, and so many
+  -- records of it can be read after the one at which those of the side end.
+  pub record IsRestDumped (line : List Byte) (disk : View) : Type 0 where
+    pub side : Side
+    pub epoch : Epoch
+    pub out : LeftOut
+    pub register : State
+    pub bad : Option Sector
+    pub later : ℕ
+    pub left : disk.honest → IsRestOf A disk.reads side epoch out register bad
+    pub follow : disk.honest → AreLaterOnDisk A disk.reads side bad later
+    pub line_is : line ≡ rest_line side epoch register.count out bad later
+    pub dumped : IsDumped (contents before) (contents after) register
+    pub written : IsWritten took flushed (register_bytes register) before after
 
--- Nothing is left, and nothing was written.
-pub record IsNoRestDumped (A : Type 0) (honest : Type 0) (image : List (List Byte)) (line : List Byte) (Unchanged : Type 0) : Type 0 where
-  pub none : honest → HasNoRest A image
-  pub line_is : line ≡ no_rest_line
-  pub same : Unchanged
+  -- Nothing is left, and nothing was written.
+  pub record IsNoRestDumped (line : List Byte) (disk : View) : Type 0 where
+    pub none : disk.honest → HasNoRest A disk.reads
+    pub line_is : line ≡ no_rest_line
+    pub same : after ≡ before
 
--- what was written for a checked disk: the text of what is left of it, with this line, or nothing
-abbrev pub IsRestText : (A : Type 0) → Type 0 → List (List Byte) → List Byte → Option (List Byte) → Option (List Byte) → (List Byte → Type 0) → Type 0 → Type 0
-IsRestText A honest image line before after Written Unchanged =
-    IsRestDumped A honest image line before after Written ⊎ IsNoRestDumped A honest image line Unchanged
+  -- what was written for a checked disk: the text of what is left of it, with this line, or nothing
+  abbrev pub IsRestText : List Byte → View → Type 0
+  IsRestText line disk = IsRestDumped line disk ⊎ IsNoRestDumped line disk
+
+  -- the report on a disk of which this was found, and the text that was written for it, which have the same line
+  pub record IsRestWrittenOn (checked : Checked) (report : RestReport A) (disk : View) : Type 0 where
+    pub line : List Byte
+    pub reported : IsRestReportedOn A checked line report.text.items report.whole disk
+    pub text : IsRestText line disk
+
+  -- the report on a disk, and the text that was written for it, which have the same line
+  pub record IsRestWritten (report : RestReport A) (disk : View) : Type 0 where
+    pub line : List Byte
+    pub reported : IsRestReported A line report.text.items report.whole disk
+    pub text : IsRestText line disk
 
 -- ---- why none
 
--- the text of what is left was not written, for this reason
-pub record IsRestUnwritten (A : Type 0) (honest : Type 0) (image : List (List Byte)) (Unwritten : List Byte → DumpFault → Type 0)
-    (fault : DumpFault) : Type 0 where
-  pub side : Side
-  pub epoch : Epoch
-  pub out : LeftOut
-  pub register : State
-  pub bad : Option Sector
-  pub left : honest → IsRestOf A image side epoch out register bad
-  pub unwritten : Unwritten (register_bytes register) fault
+-- Of a writer, given are the relations between it before and after it takes bytes and fails.
+module _ (A : Type 0) {W : Type 0} (took : W → List Byte → W → Type 0) (failed : W → W → Type 0) (before after : W) where
+  -- the text of what is left was not written, for this reason
+  pub record IsRestUnwritten (disk : View) (fault : DumpFault) : Type 0 where
+    pub side : Side
+    pub epoch : Epoch
+    pub out : LeftOut
+    pub register : State
+    pub bad : Option Sector
+    pub left : disk.honest → IsRestOf A disk.reads side epoch out register bad
+    pub unwritten : IsUnwritten took failed (register_bytes register) before after fault
 
--- the disk was not read, for this reason; or the text was not written, for this one
-abbrev pub HasNoRestText : (A : Type 0) → (List Byte → DumpFault → Type 0) → View → View → DiskDumpFault → Type 0
-HasNoRestText A Unwritten old new (dump.Opening fault) = HasReason IsOfCheck (λ fault. Fails fault (opens A old.reads)) (Unit {0}) old new fault
-HasNoRestText A Unwritten old new (dump.Writing fault) = IsRestUnwritten A old.honest old.reads Unwritten fault
+  -- the disk was not read, for this reason; or the text was not written, for this one
+  abbrev pub HasNoRestText : View → View → DiskDumpFault → Type 0
+  HasNoRestText old new (dump.Opening fault) = HasReason IsNoDamage (λ fault. Fails fault (opens A old.reads)) (Unit {0}) old new fault
+  HasNoRestText old new (dump.Writing fault) = IsRestUnwritten old fault
 
--- a fault of reading the disk is one that a check may have
+-- a fault of a check, where damage is no fault: it was found before memory ran out
+abbrev pub without_damage : StoreFault → StoreFault
+without_damage (Damaged at) = NoMemory
+without_damage other = other
+
+-- a fault of reading the disk is no damage
 abbrev pub IsOfRest : DiskDumpFault → Type 0
-IsOfRest (dump.Opening fault) = IsOfCheck fault
+IsOfRest (dump.Opening fault) = IsNoDamage fault
 IsOfRest (dump.Writing fault) = Unit {0}

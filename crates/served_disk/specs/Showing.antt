@@ -1,5 +1,5 @@
 -- What is shown for a query.
-use Rattle.std.specs.Prelude.{◌≡◌, ◌⊎◌, Bool, true, false, List, ◌++◌, MatchBool, Ok, codes, decimal}
+use Rattle.std.specs.Prelude.{◌≡◌, ◌⊎◌, Bool, true, false, List, ◌++◌, MatchBool, MatchResult, Ok, Result, codes, decimal}
 use Rattle.std.specs.Str.{bytes_eq}
 use Rattle.centre_core.specs.State.{State}
 use Rattle.desk.specs.declared.outage.Outage.TheVariants.{Memory}
@@ -13,6 +13,7 @@ use Rattle.console.specs.Answer.{text, is_trouble, IsLine}
 use Rattle.listings.specs.declared.listing.Listing.{Listing}
 use Rattle.console.specs.Dialogue.{AnswersListing, AnswersQuery}
 use Rattle.console.specs.Reading.{reading}
+use Rattle.sector_disk.specs.Disk.{View}
 use Rattle.sector_disk.specs.Numbers.{Byte}
 use Rattle.checkpoint.specs.declared.side.Side.{Side}
 use Rattle.checkpoint.specs.declared.side.Side.TheVariants as side
@@ -52,6 +53,10 @@ module _ {A : Type 0} where
 abbrev pub HasNoListing : (A : Type 0) → Line A → Type 0
 HasNoListing A (line.Print l) = ⊥
 HasNoListing A other = Unit {0}
+
+-- the answer to what the only line says, if it asks for no listing; else the listing that it asks for
+abbrev pub ShowsOrLists : {A : Type 0} → State → Line A → Result (Answer A) Listing → Type 0
+ShowsOrLists {A = A} s said given = MatchResult given (λ answer. ShowsReading s said answer × HasNoListing A said) (λ listing. said ≡ line.Print listing)
 
 -- the text of the answer to a listing, and whether it reports trouble
 pub record IsListingOf (A : Type 0) (s : State) (l : Listing) (out : List Byte) (troubled : Bool) : Type 0 where
@@ -108,8 +113,8 @@ pub record IsShownOf (A : Type 0) (image : List (List Byte)) (figures : Figures)
   pub state : s ≡ opened.state
 
 -- The text of the answer to a line about a disk. If the disk is honest, figures and register are those that its image opens to.
-pub record IsShownBy (A : Type 0) (honest : Type 0) (image : List (List Byte)) (whole : List Byte) (out : List Byte) (troubled : Bool) : Type 0 where
+pub record IsShownBy (A : Type 0) (whole out : List Byte) (troubled : Bool) (disk : View) : Type 0 where
   pub figures : Figures
   pub register : State
-  pub kept : honest → IsShownOf A image figures register
+  pub kept : disk.honest → IsShownOf A disk.reads figures register
   pub shown : IsShownFor A figures register whole out troubled

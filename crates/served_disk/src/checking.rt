@@ -1,21 +1,21 @@
 //! A check of a disk, as lines.
-ghost use Rattle.std.specs.Prelude.{◌≡◌, ◌⊎◌, ◌++◌, ◌∷◌, ◌<◌, ◌≤◌, ℕ, [], IfErr, IfOk, IfSome, IsErrOf, None, OnOk};
+ghost use Rattle.std.specs.Prelude.{◌≡◌, ◌⊎◌, ◌<◌, ◌≤◌, ℕ, IfErr, IfOk, IsErrOf, OnOk};
 ghost use Rattle.std.specs.List.{flat_map};
 ghost use Rattle.std.specs.Io.KnownBytes.{Appends};
 ghost use Rattle.sector_disk.specs.Disk.{HasFailed};
 ghost use Rattle.sector_disk.specs.Reading.{before_reads};
 ghost use Rattle.sector_disk.specs.Run.{HasOnlyRead};
-ghost use Rattle.sector_disk.specs.declared.record.Call.TheVariants.{Sync};
-ghost use Rattle.file_disk.specs.Disk.{IsNew, calls_of, file_view};
+ghost use Rattle.file_disk.specs.Disk.{calls_of};
 ghost use Rattle.checkpoint.specs.Layout.{disk_size};
 ghost use Rattle.recovery.specs.declared.fault.StoreFault.TheVariants.{DiskFault};
-ghost use Rattle.recovery.specs.Checking.{IsDamagedAt, IsOfCheck, opened_by};
+ghost use Rattle.recovery.specs.Checking.{IsDamagedAt, opened_by};
 ghost use Rattle.recovery.specs.Damage.{IsOfDamage, IsOfState};
-ghost use Rattle.served_disk.specs.Calls.{IsOnlyRead, IsReadAtMost};
+ghost use Rattle.recovery.specs.Opening.{IsOfOpening as IsOfStoreOpening};
+ghost use Rattle.served_disk.specs.Calls.{IsOnlyRead, IsReadRefused, WasRead, WasReadAtMost};
 ghost use Rattle.served_disk.specs.Checking.{IsReported, IsReportedBy, IsReportedOn, checked_text, damage_line, has_damage, is_well, kind_text};
 ghost use Rattle.served_disk.specs.Checking.{last_line, opening_word, reason_end, reason_text, sector_text, side_lines, whole_line};
-ghost use Rattle.served_disk.specs.Making.{IsOfOpening, IsOfTaking};
-ghost use Rattle.served_disk.specs.Named.{IsRefused, OnDisk};
+ghost use Rattle.served_disk.specs.Making.{IsOfOpening};
+ghost use Rattle.served_disk.specs.Named.{InFile, IsRefusedIn};
 ghost use Rattle.served_disk.specs.Refusals.{IsUnchecked, Reports};
 
 use crate::losses::print_losses;
@@ -246,7 +246,7 @@ pub(crate) fn report_on<A: Allocator + Copy + Drop, D: Disk>(
 ) -> Result<CheckReport<A>, StoreFault>
     requires room { disk_size checked.now.layout ≤ (D.view disk.old).sectors }
     requires on_disk { (at : ℕ) → IsDamagedAt at checked.now.a ⊎ IsDamagedAt at checked.now.b → at < (D.view disk.old).sectors }
-    ensures reported { IfOk result (λ report. IsReportedOn A checked.now (D.view disk.old).honest (D.view disk.old).reads report.text.items report.well) }
+    ensures reported { IfOk result (λ report. IsReportedOn A checked.now report.text.items report.well (D.view disk.old)) }
     ensures kinds { IfErr result IsOfDamage }
     ensures only_read { (D.view disk.old).honest → HasOnlyRead (D.view disk.old) (D.view disk.new) }
     ensures sectors { (D.view disk.new).sectors ≡ (D.view disk.old).sectors }
@@ -265,18 +265,18 @@ pub(crate) fn report_on<A: Allocator + Copy + Drop, D: Disk>(
 /// Checks both sides of a disk. The disk is synced once, and then only read. It is returned, also after a fault.
 ///
 /// # Errors
-/// There is no layout on the disk, the device has failed, or out of memory, which hides no damage to the side that was read last.
-/// Damage is no error: the text reports it.
+/// There is no layout on the disk, the device has failed, or out of memory, which hides no damage that was read. Damage is no error: the
+/// text reports it. Only where memory ran out after damage was found it is `Damaged`, with the first damaged sector of side A, or else
+/// of side B.
 pub fn check_on<A: Allocator + Copy + Drop, D: Disk>(
     alloc: A,
     disk: D,
 ) -> Result<(CheckReport<A>, D), (StoreFault, D)>
-    ensures reported { IfOk result (λ r. IsReportedBy A (D.view disk).honest (D.view disk).reads r.0.text.items r.0.well) }
+    ensures reported { IfOk result (λ r. IsReportedBy A r.0.text.items r.0.well (D.view disk)) }
     ensures refused { IfErr result (λ e. IsUnchecked A (D.view disk) (D.view e.1) e.0) }
-    ensures calls { IfOk result (λ r. before_reads (D.view r.1).calls ≡ (D.view disk).calls ++ Sync ∷ []) }
-    ensures some_calls { IfErr result (λ e. (before_reads (D.view e.1).calls ≡ (D.view disk).calls ++ Sync ∷ [])
-        ⊎ ((e.0 ≡ DiskFault) × ((D.view e.1).calls ≡ (D.view disk).calls))) }
-    ensures kinds { IfErr result (λ e. IsOfCheck e.0) }
+    ensures calls { IfOk result (λ r. WasRead (D.view disk) (D.view r.1)) }
+    ensures some_calls { IfErr result (λ e. WasReadAtMost (e.0 ≡ DiskFault) (D.view disk) (D.view e.1)) }
+    ensures kinds { IfErr result (λ e. IsOfStoreOpening e.0) }
 {
     let mut disk = disk;
     let checked = match check(alloc, &mut disk) {
@@ -285,7 +285,7 @@ pub fn check_on<A: Allocator + Copy + Drop, D: Disk>(
     };
     match report_on(alloc, &mut disk, &checked) {
         Ok(report) => Ok((report, disk)),
-        Err(fault) => Err((fault, disk)),
+        Err(fault) => Err((fault.unless_damaged(checked.first_damaged()), disk)),
     }
 }
 
@@ -293,21 +293,18 @@ pub fn check_on<A: Allocator + Copy + Drop, D: Disk>(
 /// counts the sectors that are read.
 ///
 /// # Errors
-/// Those of `open_disk` but `Damaged`. `Memory` also comes if there is none for a text of 1,024 bytes.
+/// Those of `open_disk`, but `Damaged` only where memory ran out after damage was found: it is the first damaged sector of side A, or else
+/// of side B. `Memory` also comes if there is none for a text of 1,024 bytes.
 pub fn check_disk<'a, F: SectorFile, R: DiskFiles<F> + Clock + Eprint>(
     rt: &R,
     alloc: Global,
     name: &'a str,
     tally: &Tally<'_, R>,
 ) -> Result<(CheckReport<Global>, FileDisk<F>), Refused<'a, F>>
-    ensures reported { IfOk result (λ r. OnDisk (R.adopted rt.now name.now) IsNew
-        (λ disk. IsReportedBy Global (file_view F.view disk).honest (file_view F.view disk).reads r.0.text.items r.0.well)) }
-    ensures refused { IfErr result (λ e. IsRefused (R.adopted rt.now name.now) IsNew name.now
-        (λ old new. Reports (IsUnchecked Global (file_view F.view old) (file_view F.view new))) e.fault e.disk) }
+    ensures reported { IfOk result (λ r. InFile F.view (R.adopted rt.now) name.now (IsReportedBy Global r.0.text.items r.0.well)) }
+    ensures refused { IfErr result (IsRefusedIn F.view (R.adopted rt.now) name.now (Reports (IsUnchecked Global))) }
     ensures calls { IfOk result (λ r. IsOnlyRead (calls_of r.1)) }
-    ensures some_calls { IfErr result (λ e. IfSome e.disk (λ disk. IsReadAtMost e.fault (calls_of disk))) }
-    ensures kinds { IfErr result (λ e. IsOfOpening name.now e.fault) }
-    ensures none { IfErr result (λ e. e.disk ≡ None → IsOfTaking name.now e.fault) }
+    ensures reading { IfErr result (IsReadRefused IsOfOpening name.now) }
 {
     let disk = adopt_disk(rt, name)?;
     let counted = CountedDisk::new(disk, tally);

@@ -18,7 +18,8 @@ pub struct CountedReader<'t, 'r, R, C> {
 impl<'t, 'r, R: Read, C: Clock + Eprint> CountedReader<'t, 'r, R, C> {
     /// This reader. `tally` counts its lines.
     pub fn new(reader: R, tally: &'t Tally<'r, C>) -> Self
-        ensures { result.reader ≡ reader }
+        ensures reader { result.reader ≡ reader }
+        ensures tally { result.tally.now ≡ tally.now }
     {
         CountedReader { reader, tally }
     }
@@ -46,7 +47,8 @@ pub struct CountedWriter<'t, 'r, W, C> {
 impl<'t, 'r, W: Write, C: Clock + Eprint> CountedWriter<'t, 'r, W, C> {
     /// This writer. `tally` counts its lines.
     pub fn new(writer: W, tally: &'t Tally<'r, C>) -> Self
-        ensures { result.writer ≡ writer }
+        ensures writer { result.writer ≡ writer }
+        ensures tally { result.tally.now ≡ tally.now }
     {
         CountedWriter { writer, tally }
     }
@@ -78,7 +80,8 @@ pub struct CountedDisk<'t, 'r, D, C> {
 impl<'t, 'r, D: Disk, C: Clock + Eprint> CountedDisk<'t, 'r, D, C> {
     /// This disk. `tally` counts the sectors that are read.
     pub fn new(disk: D, tally: &'t Tally<'r, C>) -> Self
-        ensures { result.disk ≡ disk }
+        ensures disk { result.disk ≡ disk }
+        ensures tally { result.tally.now ≡ tally.now }
     {
         CountedDisk { disk, tally }
     }
@@ -132,7 +135,8 @@ pub struct SyncedDisk<'s, D> {
 impl<'s, D: Disk> SyncedDisk<'s, D> {
     /// This disk. `syncs` counts its syncs, also those that fail.
     pub fn new(disk: D, syncs: &'s AtomicU64) -> Self
-        ensures { result.disk ≡ disk }
+        ensures disk { result.disk ≡ disk }
+        ensures syncs { result.syncs ≡ syncs.entry }
     {
         SyncedDisk { disk, syncs }
     }

@@ -8,14 +8,14 @@ ghost use Rattle.file_disk.specs.declared.fault.FileFault.TheVariants.{KeepsNoth
 ghost use Rattle.file_disk.specs.declared.fault.OpenCause.TheVariants.{Exists};
 ghost use Rattle.served_disk.specs.Calls.{IsBlankOf};
 
-use file_disk::{FileDisk, FileFault, HostFile, SectorFile};
-use std::fs::{File, Files};
+use file_disk::{FileDisk, FileFault, FileSystem, SectorFile};
 
 /// Opens and makes files by their names, each as a disk.
 ///
 /// Two relations say what these calls answer. Only the calls themselves show that one holds. So a clause that states it of a disk
-/// or of a fault speaks of what the call answered for that name. The operating system's files are an instance, of which nothing
-/// more is known.
+/// or of a fault speaks of what the call answered for that name. Each file system is an instance (`FileSystem`): for it the
+/// relations say which of its calls failed, and what it answered. The operating system is such a file system, and nothing is known
+/// of what that answers.
 pub trait DiskFiles<F: SectorFile> {
     // What opening the file of a name answers.
     ghost adopted: { Self → List Byte → Result (FileDisk F) FileFault → Type 0 };
@@ -36,16 +36,18 @@ pub trait DiskFiles<F: SectorFile> {
         ensures blank { IfOk result (IsBlankOf sectors) };
 }
 
-impl<R: Files<File = File>> DiskFiles<HostFile> for R {
-    ghost adopted = { λ files name given. Unit {0} };
+impl<F: SectorFile, R: FileSystem<F>> DiskFiles<F> for R {
+    ghost use Rattle.served_disk.specs.Systems.{Adopts, Creates};
 
-    ghost created = { λ files name sectors given. Unit {0} };
+    ghost adopted = { λ system name given. Adopts F.measured (R.answers system) name given };
 
-    fn adopt(&self, name: &str) -> Result<FileDisk<HostFile>, FileFault> {
-        FileDisk::<HostFile>::adopt(self, name)
+    ghost created = { λ system name sectors given. Creates F.view F.turns F.measured (R.answers system) name sectors given };
+
+    fn adopt(&self, name: &str) -> Result<FileDisk<F>, FileFault> {
+        FileDisk::<F>::adopt(self, name)
     }
 
-    fn create(&self, name: &str, sectors: u64) -> Result<FileDisk<HostFile>, FileFault> {
-        FileDisk::<HostFile>::create(self, name, sectors)
+    fn create(&self, name: &str, sectors: u64) -> Result<FileDisk<F>, FileFault> {
+        FileDisk::<F>::create(self, name, sectors)
     }
 }

@@ -1,4 +1,6 @@
 //! What wakes the flusher's thread.
+ghost use Rattle.std.specs.Prelude.{◌≡◌};
+
 use std::sync::Wait;
 use std::sync::atomic::{AtomicU64, Ordering};
 use std::thread;
@@ -28,7 +30,9 @@ pub(crate) struct Doorbell {
 
 impl Doorbell {
     /// The flusher is awake, and nothing is announced.
-    pub(crate) fn new(longest: Option<Duration>) -> Doorbell {
+    pub(crate) fn new(longest: Option<Duration>) -> Doorbell
+        ensures { result.longest ≡ longest }
+    {
         Doorbell {
             announced: AtomicU64::new(0),
             idle: AtomicU64::new(0),

@@ -1,16 +1,13 @@
 //! The text of the register on a disk.
-ghost use Rattle.std.specs.Prelude.{◌≡◌, ◌⊎◌, ◌++◌, ◌∷◌, [], IfErr, IfOk, IfSome, None, OnOk};
-ghost use Rattle.sector_disk.specs.Reading.{before_reads};
-ghost use Rattle.sector_disk.specs.declared.record.Call.TheVariants.{Sync};
-ghost use Rattle.file_disk.specs.Disk.{IsNew, calls_of, file_view};
+ghost use Rattle.std.specs.Prelude.{◌≡◌, IfErr, IfOk, OnOk};
+ghost use Rattle.file_disk.specs.Disk.{calls_of};
 ghost use Rattle.recovery.specs.declared.fault.StoreFault.{StoreFault};
 ghost use Rattle.recovery.specs.declared.fault.StoreFault.TheVariants.{DiskFault};
 ghost use Rattle.register_text.specs.Dump.{register_bytes};
 ghost use Rattle.register_text.specs.Passing.{IsUnwritten, IsWritten};
-ghost use Rattle.served_disk.specs.Calls.{IsOnlyRead, IsReadAtMost};
+ghost use Rattle.served_disk.specs.Calls.{IsOnlyRead, IsReadRefused, WasRead, WasReadAtMost};
 ghost use Rattle.served_disk.specs.Dumping.{IsDumped, IsDumpedBy, IsOfDiskDump, IsOfDumping, IsUndumped, ReportsDump};
-ghost use Rattle.served_disk.specs.Making.{IsOfTaking};
-ghost use Rattle.served_disk.specs.Named.{IsRefused, OnDisk};
+ghost use Rattle.served_disk.specs.Named.{InFile, IsRefusedIn};
 
 use crate::opening::adopt_disk;
 use crate::{DiskFiles, Refused};
@@ -49,20 +46,18 @@ pub(crate) fn dump<A: Allocator + Clone, B: Allocator + Clone, W: TextSink>(
 /// after a fault.
 ///
 /// # Errors
-/// `Opening` for a fault of what is on the disk, the device if it has failed, and out of memory, which hides no fault that was
-/// read: nothing is written. `Writing` only if the writer failed, or if memory ran out and it did not: a prefix of the text is written.
+/// `Opening` for a fault of what is on the disk, the device if it has failed, and out of memory, which hides no bad row or record
+/// that was read: nothing is written. `Writing` only if the writer failed, or if memory ran out and it did not: a prefix of the text is written.
 pub fn dump_on<A: Allocator + Copy + Drop, D: Disk, W: TextSink>(
     alloc: A,
     disk: D,
     out: &mut W,
 ) -> Result<D, (DiskDumpFault, D)>
-    ensures dumped { IfOk result (λ d. IsDumpedBy A (D.view disk).honest (D.view disk).reads (W.contents out.old) (W.contents out.new)
-        (λ text. IsWritten W.took W.flushed text out.old out.new)) }
-    ensures refused { IfErr result (λ e. IsUndumped A (λ text. IsUnwritten W.took W.failed text out.old out.new) (D.view disk) (D.view e.1) e.0) }
+    ensures dumped { IfOk result (λ d. IsDumpedBy A W.contents W.took W.flushed out.old out.new (D.view disk)) }
+    ensures refused { IfErr result (λ e. IsUndumped A W.took W.failed out.old out.new (D.view disk) (D.view e.1) e.0) }
     ensures unwritten { IfErr result (λ e. (fault : StoreFault) → e.0 ≡ DiskDumpFault.Opening fault → out.new ≡ out.old) }
-    ensures calls { IfOk result (λ d. before_reads (D.view d).calls ≡ (D.view disk).calls ++ Sync ∷ []) }
-    ensures some_calls { IfErr result (λ e. (before_reads (D.view e.1).calls ≡ (D.view disk).calls ++ Sync ∷ [])
-        ⊎ ((e.0 ≡ DiskDumpFault.Opening DiskFault) × ((D.view e.1).calls ≡ (D.view disk).calls))) }
+    ensures calls { IfOk result (λ d. WasRead (D.view disk) (D.view d)) }
+    ensures some_calls { IfErr result (λ e. WasReadAtMost (e.0 ≡ DiskDumpFault.Opening DiskFault) (D.view disk) (D.view e.1)) }
     ensures kinds { IfErr result (λ e. IsOfDumping e.0) }
 {
     let store = match Store::open(alloc, disk) {
@@ -88,16 +83,10 @@ pub fn dump_disk<'a, F: SectorFile, R: DiskFiles<F>, W: TextSink>(
     name: &'a str,
     out: &mut W,
 ) -> Result<FileDisk<F>, Refused<'a, F>>
-    ensures dumped { IfOk result (λ d. OnDisk (R.adopted rt.now name.now) IsNew
-        (λ disk. IsDumpedBy Global (file_view F.view disk).honest (file_view F.view disk).reads (W.contents out.old) (W.contents out.new)
-        (λ text. IsWritten W.took W.flushed text out.old out.new))) }
-    ensures refused { IfErr result (λ e. IsRefused (R.adopted rt.now name.now) IsNew name.now
-        (λ old new. ReportsDump (IsUndumped Global (λ text. IsUnwritten W.took W.failed text out.old out.new) (file_view F.view old) (file_view F.view new)))
-        e.fault e.disk) }
+    ensures dumped { IfOk result (λ d. InFile F.view (R.adopted rt.now) name.now (IsDumpedBy Global W.contents W.took W.flushed out.old out.new)) }
+    ensures refused { IfErr result (IsRefusedIn F.view (R.adopted rt.now) name.now (ReportsDump (IsUndumped Global W.took W.failed out.old out.new))) }
     ensures calls { IfOk result (λ disk. IsOnlyRead (calls_of disk)) }
-    ensures some_calls { IfErr result (λ e. IfSome e.disk (λ disk. IsReadAtMost e.fault (calls_of disk))) }
-    ensures kinds { IfErr result (λ e. IsOfDiskDump name.now e.fault) }
-    ensures none { IfErr result (λ e. e.disk ≡ None → IsOfTaking name.now e.fault) }
+    ensures reading { IfErr result (IsReadRefused IsOfDiskDump name.now) }
 {
     let disk = adopt_disk(rt, name)?;
     match dump_on(alloc, disk, out) {

@@ -1,11 +1,14 @@
 //! The files of the stations of a run.
 ghost use Rattle.std.specs.Prelude.{◌≡◌, ◌≤◌, ◌<◌, None, Some, option_map, OnOk, OnErr, IfErr, IfOk, length, nat_lt, false};
+ghost use Rattle.std.specs.List.{AllZip};
 ghost use Rattle.std.specs.Option.{option_copied};
 ghost use Rattle.settings.specs.Naming.{first_twice, texts};
-ghost use Rattle.served_disk.specs.declared.fault.Fault.TheVariants.{Memory, NotServed, TooMany};
+ghost use Rattle.served_disk.specs.declared.fault.Fault.TheVariants.{NotServed, TooMany};
+ghost use Rattle.served_disk.specs.Faults.{OrMemory};
 ghost use Rattle.served_disk.specs.Files.{IsNotRead, IsOfFiles, IsOfNames, not_served};
+ghost use Rattle.served_disk.specs.Pairs.{IsFilePortOf, names_of_files, numbered};
 
-use crate::{Fault, PortNames, Progress, WatchedReader};
+use crate::{Fault, PortNames, Progress, StationFiles, WatchedReader};
 use file_disk::OpenCause;
 use recovery::Store;
 use registration::Station;
@@ -13,7 +16,7 @@ use sector_disk::Disk;
 use settings::{NameFault, name_files};
 use stations::Port;
 use std::alloc::Global;
-use std::fs::{File, Files};
+use std::fs::File;
 use std::io::ErrorKind;
 use std::rt::Clock;
 
@@ -100,8 +103,8 @@ pub fn not_read<'a>(kind: ErrorKind, name: &'a str) -> Fault<'a>
 /// # Errors
 /// `Memory`.
 pub fn file_names<'a>(alloc: Global, files: &[&'a str]) -> Result<Vec<PortNames<'a>>, Fault<'a>>
+    ensures named { OrMemory result (λ names. names.items ≡ names_of_files files.now) }
     ensures all { IfOk result (λ names. length names.items ≡ length files.now) }
-    ensures refused { IfErr result (λ fault. fault ≡ Memory) }
 {
     let Ok(mut names) = Vec::with_capacity(alloc, files.len()) else {
         return Err(Fault::Memory);
@@ -119,21 +122,22 @@ pub fn file_names<'a>(alloc: Global, files: &[&'a str]) -> Result<Vec<PortNames<
 ///
 /// # Errors
 /// `File` with the first name whose file can't be opened, and `Memory`.
-pub fn open_files<'a, 'p, 'r, R: Files<File = File>, C: Clock + Eprint>(
+pub fn open_files<'a, 'p, 'r, R: StationFiles, C: Clock + Eprint>(
     rt: &R,
     alloc: Global,
     names: &[&'a str],
     progress: &'p Progress<'r, C>,
 ) -> Result<Vec<FilePort<'p, 'r, C>>, Fault<'a>>
     requires few { length names.now ≤ 64 }
+    ensures opened { IfOk result (λ ports. AllZip (IsFilePortOf (R.opened rt.now)) (numbered names.now) ports.items) }
     ensures all { IfOk result (λ ports. length ports.items ≡ length names.now) }
-    ensures refused { IfErr result (IsOfFiles names.now) }
+    ensures refused { IfErr result (IsOfFiles (R.opened rt.now) names.now) }
 {
     let Ok(mut ports) = Vec::with_capacity(alloc, names.len()) else {
         return Err(Fault::Memory);
     };
     for index in 0..names.len() {
-        let file = match File::open(rt, names[index]) {
+        let file = match rt.open_input(names[index]) {
             Ok(file) => file,
             Err(error) => return Err(not_read(error.kind(), names[index])),
         };

@@ -29,6 +29,7 @@ mod serving;
 mod showing;
 mod showing_disk;
 mod showing_figures;
+mod station_files;
 mod tally;
 mod watched;
 
@@ -57,5 +58,6 @@ pub use service_watch::{Manner, ServiceWatch};
 pub use serving::{Served, TURNS, outcome, print_stations, service_outcome};
 pub use showing::{Shown, show};
 pub use showing_disk::{show_disk, show_on};
+pub use station_files::StationFiles;
 pub use tally::Tally;
 pub use watched::{WatchedDesk, WatchedReader};

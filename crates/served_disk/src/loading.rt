@@ -1,12 +1,11 @@
 //! A register that is loaded from a dump.
-ghost use Rattle.std.specs.Prelude.{◌≡◌, List, ℕ, IfErr, IfOk, IfSome, Ok, Some};
-ghost use Rattle.centre_core.specs.State.{IsState, State};
-ghost use Rattle.centre_core.specs.StateRanges.{StateInRange};
+ghost use Rattle.std.specs.Prelude.{◌≡◌, IfErr, IfOk, IfSome};
+ghost use Rattle.centre_core.specs.State.{State};
 ghost use Rattle.image_rows.specs.Rows.{rows_of};
-ghost use Rattle.register_text.specs.Dump.{IsAll, register_bytes, text_read};
+ghost use Rattle.register_text.specs.Dump.{IsAll, text_read};
 ghost use Rattle.register_text.specs.Passing.{IsUnread, IsWhole};
 ghost use Rattle.register_text.specs.Text.{IsUnder};
-ghost use Rattle.served_disk.specs.Loading.{IsOfLoading, IsReadAs, ReportsLoad};
+ghost use Rattle.served_disk.specs.Loading.{IsDumpOf, IsOfLoading, IsReadAs, IsReadIn, ReportsLoad};
 
 use crate::Fault;
 use centre_core::Register;
@@ -25,17 +24,17 @@ pub fn load_register<'a, R: TextSource>(
     reader: &mut R,
     name: &'a str,
 ) -> Result<Register<Global>, Fault<'a>>
-    ensures loaded { IfOk result (λ register. (text : List ℕ) × IsAll (R.remaining reader.old) text × (text_read limits text ≡ Ok register)) }
+    ensures loaded { IfOk result (IsReadIn (IsAll (R.remaining reader.old)) limits) }
     ensures under { IfOk result (λ register. register.registered.limits ≡ limits) }
 
     // From the text of a register, that register is loaded, under these limits.
-    ensures dumped { (s : State) → IsState s → StateInRange s → R.remaining reader.old ≡ Some (register_bytes s)
+    ensures dumped { (s : State) → IsDumpOf s (R.remaining reader.old)
         → IfOk result (λ register. IsUnder limits (rows_of 1 s) register) }
     ensures refused { IfErr result (λ fault. IfSome (R.remaining reader.old) (λ text. IsReadAs (text_read limits text) fault)) }
     ensures kinds { IfErr result (IsOfLoading name.now) }
 
     // Over any reader: what it gave, and why no more.
-    ensures whole { IfOk result (λ register. (text : List ℕ) × IsWhole R.gave R.ended reader.old reader.new text × (text_read limits text ≡ Ok register)) }
+    ensures whole { IfOk result (IsReadIn (IsWhole R.gave R.ended reader.old reader.new) limits) }
     ensures unread { IfErr result (ReportsLoad (IsUnread R.gave R.ended R.failed (text_read limits) reader.old reader.new) name.now) }
 {
     laws::register_bytes();

@@ -1,15 +1,14 @@
 //! A disk made for an empty register, or for one that is there.
 ghost use Rattle.std.specs.Prelude.{◌≡◌, ◌↔◌, IfErr, IfOk, IfSome, IsSome, None, Ok, Some, is_err, true};
-ghost use Rattle.file_disk.specs.Disk.{calls_of, file_view};
+ghost use Rattle.file_disk.specs.Disk.{calls_of};
 ghost use Rattle.centre_core.specs.State.{empty};
 ghost use Rattle.checkpoint.specs.Layout.{disk_size};
 ghost use Rattle.recovery.specs.Calls.{format_calls};
 ghost use Rattle.recovery.specs.FormatWith.{format_with_calls};
 ghost use Rattle.served_disk.specs.Faults.{of_store};
-ghost use Rattle.served_disk.specs.Calls.{IsBlankOf, IsPartlyMade, making_calls};
-ghost use Rattle.served_disk.specs.Making.{AreInRange, AsksFor, AsksForNone, IsFor, IsMadeFor, IsOfMaking};
-ghost use Rattle.served_disk.specs.Named.{IsNoDisk, IsRefused, OnDisk};
-ghost use Rattle.served_disk.specs.Refusals.{IsUnmade};
+ghost use Rattle.served_disk.specs.Calls.{HasPartOf, IsBlankOf, making_calls};
+ghost use Rattle.served_disk.specs.Making.{AreInRange, AsksFor, AsksForNone, IsFor, IsOfMaking};
+ghost use Rattle.served_disk.specs.Named.{IsMadeIn, IsNotMade, IsUnmadeIn};
 
 use crate::{DiskFiles, Fault, Refused};
 use centre_core::Register;
@@ -56,8 +55,7 @@ fn blank_disk<'a, F: SectorFile, R: DiskFiles<F>>(
 ) -> Result<FileDisk<F>, Refused<'a, F>>
     ensures gives { IfOk result (λ disk. R.created rt.now name.now (disk_size layout.now) (Ok disk)) }
     ensures blank { IfOk result (IsBlankOf (disk_size layout.now)) }
-    ensures no_disk { IfErr result (λ e.
-        IsNoDisk (R.created rt.now name.now (disk_size layout.now)) (IsBlankOf (disk_size layout.now)) name.now e.fault e.disk) }
+    ensures no_disk { IfErr result (IsNotMade (R.created rt.now) name.now (disk_size layout.now)) }
     ensures none { IfErr result (λ e. e.disk ≡ None) }
     ensures kinds { IfErr result (λ e. IsOfMaking name.now e.fault) }
 {
@@ -94,13 +92,11 @@ pub fn format_disk<'a, F: SectorFile, R: DiskFiles<F>>(
     name: &'a str,
 ) -> Result<FileDisk<F>, Refused<'a, F>>
     // If the disk in the file is honest, it opens to the empty register.
-    ensures made { IfOk result (λ disk. OnDisk (R.created rt.now name.now (disk_size layout.now)) (IsBlankOf (disk_size layout.now))
-        (λ blank. (file_view F.view blank).honest → IsMadeFor Global layout.now (empty layout.now.limits) (file_view F.view disk))) }
-    ensures refused { IfErr result (λ e. IsRefused (R.created rt.now name.now (disk_size layout.now)) (IsBlankOf (disk_size layout.now)) name.now
-        (λ old new. IsUnmade (file_view F.view old) (file_view F.view new)) e.fault e.disk) }
+    ensures made { IfOk result (IsMadeIn F.view (R.created rt.now) name.now layout.now (empty layout.now.limits)) }
+    ensures refused { IfErr result (IsUnmadeIn F.view (R.created rt.now) name.now layout.now) }
     ensures sectors { IfOk result (λ disk. disk.sectors ≡ disk_size layout.now) }
     ensures calls { IfOk result (λ disk. calls_of disk ≡ making_calls layout.now (format_calls layout.now)) }
-    ensures some_calls { IfErr result (λ e. IfSome e.disk (λ disk. IsPartlyMade (making_calls layout.now (format_calls layout.now)) (calls_of disk))) }
+    ensures some_calls { IfErr result (HasPartOf (making_calls layout.now (format_calls layout.now))) }
     ensures kinds { IfErr result (λ e. IsOfMaking name.now e.fault) }
 {
     let mut disk = blank_disk(rt, layout, name)?;
@@ -121,14 +117,11 @@ pub fn make_disk_with<'a, F: SectorFile, R: DiskFiles<F>>(
     requires limits { register.now.registered.limits ≡ layout.now.limits }
 
     // If the disk in the file is honest, it opens to this register.
-    ensures made { IfOk result (λ disk. OnDisk (R.created rt.now name.now (disk_size layout.now)) (IsBlankOf (disk_size layout.now))
-        (λ blank. (file_view F.view blank).honest → IsMadeFor Global layout.now register.now (file_view F.view disk))) }
-    ensures refused { IfErr result (λ e. IsRefused (R.created rt.now name.now (disk_size layout.now)) (IsBlankOf (disk_size layout.now)) name.now
-        (λ old new. IsUnmade (file_view F.view old) (file_view F.view new)) e.fault e.disk) }
+    ensures made { IfOk result (IsMadeIn F.view (R.created rt.now) name.now layout.now register.now) }
+    ensures refused { IfErr result (IsUnmadeIn F.view (R.created rt.now) name.now layout.now) }
     ensures sectors { IfOk result (λ disk. disk.sectors ≡ disk_size layout.now) }
     ensures calls { IfOk result (λ disk. calls_of disk ≡ making_calls layout.now (format_with_calls layout.now register.now)) }
-    ensures some_calls { IfErr result (λ e. IfSome e.disk (λ disk.
-        IsPartlyMade (making_calls layout.now (format_with_calls layout.now register.now)) (calls_of disk))) }
+    ensures some_calls { IfErr result (HasPartOf (making_calls layout.now (format_with_calls layout.now register.now))) }
     ensures kinds { IfErr result (λ e. IsOfMaking name.now e.fault) }
 {
     let mut disk = blank_disk(rt, layout, name)?;

@@ -1,11 +1,10 @@
 //! The register on a disk in a file.
-ghost use Rattle.std.specs.Prelude.{◌≡◌, IfErr, IfOk, IfSome, None, Ok, false};
-ghost use Rattle.file_disk.specs.Disk.{IsNew, calls_of, file_view};
+ghost use Rattle.std.specs.Prelude.{◌≡◌, IfErr, IfOk, None, Ok, false};
+ghost use Rattle.file_disk.specs.Disk.{IsNew, calls_of};
 ghost use Rattle.recovery.specs.Lives.{view_of};
-ghost use Rattle.served_disk.specs.Calls.{IsOnlyRead, IsReadAtMost};
-ghost use Rattle.served_disk.specs.Synced.{HasOpenedSynced};
+ghost use Rattle.served_disk.specs.Calls.{IsOnlyRead, IsReadRefused};
 ghost use Rattle.served_disk.specs.Making.{IsOfOpening, IsOfTaking};
-ghost use Rattle.served_disk.specs.Named.{IsNoDisk, IsRefused, OnDisk};
+ghost use Rattle.served_disk.specs.Named.{IsNoDisk, IsRefusedIn, IsStoreIn};
 ghost use Rattle.served_disk.specs.Refusals.{IsUnopened, Reports};
 
 use crate::{DiskFiles, Refused, SyncedDisk};
@@ -37,7 +36,8 @@ pub(crate) fn adopt_disk<'a, F: SectorFile, R: DiskFiles<F>>(
 ///
 /// # Errors
 /// `File` if the file can't be opened or another process holds it; `Unformatted`, `BadGeometry` or `Damaged` for what is on the
-/// disk; `Device` only if the file can't be taken as a disk or the disk has failed, and `Memory` in place of no fault that was read.
+/// disk; `Device` only if the file can't be taken as a disk or the disk has failed, and `Memory` in place of no bad row or record
+/// that was read.
 pub fn open_disk<'a, 's, F: SectorFile, R: DiskFiles<F>>(
     rt: &R,
     alloc: Global,
@@ -45,17 +45,11 @@ pub fn open_disk<'a, 's, F: SectorFile, R: DiskFiles<F>>(
     syncs: &'s AtomicU64,
 ) -> Result<Store<Global, SyncedDisk<'s, FileDisk<F>>>, Refused<'a, F>>
     // If the disk in the file is honest, the store has the register that it opens to.
-    ensures opened { IfOk result (λ store. OnDisk (R.adopted rt.now name.now) IsNew
-        (λ disk. (file_view F.view disk).honest → HasOpenedSynced (file_view F.view) disk (view_of store))) }
-    ensures refused { IfErr result (λ e. IsRefused (R.adopted rt.now name.now) IsNew name.now
-        (λ old new. Reports (IsUnopened Global (file_view F.view old) (file_view F.view new))) e.fault e.disk) }
+    ensures opened { IfOk result (λ store. IsStoreIn F.view (R.adopted rt.now) name.now (view_of store)) }
+    ensures refused { IfErr result (IsRefusedIn F.view (R.adopted rt.now) name.now (Reports (IsUnopened Global))) }
     ensures sound { IfOk result (λ store. store.broken ≡ false) }
     ensures calls { IfOk result (λ store. IsOnlyRead (calls_of store.disk.disk)) }
-    ensures some_calls { IfErr result (λ e. IfSome e.disk (λ disk. IsReadAtMost e.fault (calls_of disk))) }
-    ensures kinds { IfErr result (λ e. IsOfOpening name.now e.fault) }
-
-    // If no disk is returned, the fault is of a file that was not opened.
-    ensures none { IfErr result (λ e. e.disk ≡ None → IsOfTaking name.now e.fault) }
+    ensures reading { IfErr result (IsReadRefused IsOfOpening name.now) }
 {
     match adopt_disk(rt, name) {
         Ok(disk) => match Store::open(alloc, SyncedDisk::new(disk, syncs)) {

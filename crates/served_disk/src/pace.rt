@@ -1,4 +1,5 @@
 //! Reports come once a second.
+ghost use Rattle.std.specs.Prelude.{◌≡◌, None, false, is_some};
 
 use std::rt::Clock;
 use std::sync::atomic::{AtomicU64, Ordering};
@@ -16,7 +17,9 @@ pub(crate) struct Pace<'r, R> {
 
 impl<'r, R: Clock> Pace<'r, R> {
     /// The work begins. No report is ever due if it is not watched or there is no clock.
-    pub(crate) fn new(rt: &'r R, watched: bool) -> Self {
+    pub(crate) fn new(rt: &'r R, watched: bool) -> Self
+        ensures { watched ≡ false → result.began ≡ None }
+    {
         let began = match Instant::now(rt) {
             Ok(now) if watched => Some(now),
             _ => None,
@@ -29,12 +32,16 @@ impl<'r, R: Clock> Pace<'r, R> {
     }
 
     /// Whether reports can be due at all.
-    pub(crate) fn is_watched(&self) -> bool {
+    pub(crate) fn is_watched(&self) -> bool
+        ensures { result ≡ is_some self.now.began }
+    {
         self.began.is_some()
     }
 
     /// Whether a report is due: at the first call in each second.
-    pub(crate) fn is_due(&self) -> bool {
+    pub(crate) fn is_due(&self) -> bool
+        ensures { self.now.began ≡ None → result ≡ false }
+    {
         let Some(began) = self.began else {
             return false;
         };

@@ -1,19 +1,22 @@
 //! The pairs of files of a service: what a station's lines are read from, and what its answers are written to.
-ghost use Rattle.std.specs.Prelude.{◌≡◌, ◌++◌, ◌∷◌, [], false, not, true, IfOk, IfErr, OnErr, OnOk, length};
+ghost use Rattle.std.specs.Prelude.{◌≡◌, ◌++◌, ◌∷◌, [], codes, false, not, true, IfOk, IfErr, None, OnErr, OnOk, length};
+ghost use Rattle.std.specs.List.{AllZip};
 ghost use Rattle.std.specs.Io.{ReadsAtMost, WritesAtMost};
 ghost use Rattle.settings.specs.Naming.{texts};
+ghost use Rattle.served_disk.specs.Faults.{OrMemory};
 ghost use Rattle.served_disk.specs.Files.{has_half, inputs_in, is_half_left_out, is_left_out};
+ghost use Rattle.served_disk.specs.Pairs.{AreNamesBy, AreNamesOf, AreStreams, IsOpening, IsPairOf, IsPortOf, numbered};
 ghost use Rattle.served_disk.specs.declared.fault.Fault.TheVariants.{HalfLeftOut, Memory};
 ghost use Rattle.served_disk.specs.declared.notice.Notice.TheVariants.{Started};
+ghost use Rattle.served_disk.specs.declared.pairs.Pair.{Pair};
 
 use crate::notice::Notice;
-use crate::{Fault, PortNames};
+use crate::{Fault, PortNames, StationFiles};
 use stations::Port;
 use std::alloc::Global;
-use std::fs::{File, OpenOptions};
+use std::fs::File;
 use std::io;
 use std::io::{ErrorKind, Read, Write};
-use std::os::unix::fs::OpenOptionsExt;
 use std::sync::{Mutex, Wait};
 
 /// The files of a pair, as far as they are open.
@@ -26,18 +29,14 @@ struct OpenFiles {
 }
 
 impl OpenFiles {
-    /// Opens IN to read, and then OUT to append to it. OUT is made if it is missing, for its owner alone. Opening a FIFO waits for
-    /// its other end.
-    fn open(&mut self, host: HostRuntime, input: &str, output: &str) {
-        let Ok(input) = File::open(&host, input) else {
+    /// Opens IN of this pair, and then OUT.
+    fn open<F: StationFiles>(&mut self, files: &F, pair: &Pair<'_>)
+        ensures { IsOpening (F.opened files.now) (F.appended files.now) pair.now self.old self.new }
+    {
+        let Ok(input) = files.open_input(pair.input) else {
             return;
         };
-        match OpenOptions::new()
-            .append(true)
-            .create(true)
-            .mode(0o600)
-            .open(&host, output)
-        {
+        match files.open_output(pair.output) {
             Ok(output) => {
                 self.input = Some(input);
                 self.output = Some(output);
@@ -64,7 +63,11 @@ impl OpenFiles {
         }
     }
 
-    fn close(&mut self) {
+    fn close(&mut self)
+        ensures input { self.new.input ≡ None }
+        ensures output { self.new.output ≡ None }
+        ensures same { self.new.lacks_output ≡ self.old.lacks_output }
+    {
         self.input = None;
         self.output = None;
     }
@@ -98,20 +101,22 @@ pub struct Pair<'a> {
 impl<'a> Pair<'a> {
     /// The files of these names, not opened yet.
     pub fn new(input: &'a str, output: &'a str) -> Pair<'a>
-        ensures { result.is_served ≡ not (is_left_out input.now output.now) }
+        ensures { IsPairOf (input.entry, output.entry) result }
     {
         Pair::named(input, output, !is_left_out(input, output))
     }
 
     /// The standard streams, which faults name `-`. They are open.
     pub fn of_streams() -> Pair<'a>
-        ensures { result.is_served ≡ true }
+        ensures { AreStreams result }
     {
         Pair::named("-", "-", true)
     }
 
     fn named(input: &'a str, output: &'a str, is_served: bool) -> Pair<'a>
-        ensures { result.is_served ≡ is_served }
+        ensures input { result.input.now ≡ input.now }
+        ensures output { result.output.now ≡ output.now }
+        ensures served { result.is_served ≡ is_served }
     {
         Pair {
             input,
@@ -144,8 +149,17 @@ impl<'a> Pair<'a> {
     }
 
     /// The files that faults of the station's run name. If OUT could not be opened, a fault of reading names OUT.
-    pub fn names<R: Wait>(&self, rt: &R) -> PortNames<'a> {
+    pub fn names<R: Wait>(&self, rt: &R) -> PortNames<'a>
+        ensures { AreNamesOf self.now result }
+    {
         let lacks_output = self.files.lock(rt).lacks_output;
+        self.names_by(lacks_output)
+    }
+
+    /// The same, by whether OUT could not be opened.
+    fn names_by(&self, lacks_output: bool) -> PortNames<'a>
+        ensures { AreNamesBy lacks_output self.now result }
+    {
         PortNames {
             input: if lacks_output {
                 self.output
@@ -160,7 +174,7 @@ impl<'a> Pair<'a> {
     fn open<R: Wait>(&self, rt: &R, host: HostRuntime) -> bool {
         let mut guard = self.files.lock(rt);
         let files = &mut *guard;
-        files.open(host, self.input, self.output);
+        files.open(&host, self);
         files.input.is_some()
     }
 
@@ -264,8 +278,8 @@ pub type PairPort<'p, 'a, R> = Port<PairReader<'p, 'a, R>, PairWriter<'p, 'a, R>
 /// # Errors
 /// `Memory`.
 pub fn pairs_of<'a>(alloc: Global, named: &[(&'a str, &'a str)]) -> Result<Vec<Pair<'a>>, Fault<'a>>
+    ensures named { OrMemory result (λ pairs. AllZip IsPairOf named.now pairs.items) }
     ensures all { IfOk result (λ pairs. length pairs.items ≡ length named.now) }
-    ensures refused { IfErr result (λ fault. fault ≡ Memory) }
 {
     let Ok(mut pairs) = Vec::with_capacity(alloc, named.len()) else {
         return Err(Fault::Memory);
@@ -281,8 +295,8 @@ pub fn pairs_of<'a>(alloc: Global, named: &[(&'a str, &'a str)]) -> Result<Vec<P
 /// # Errors
 /// `Memory`.
 pub fn stream_pair<'a>(alloc: Global) -> Result<Vec<Pair<'a>>, Fault<'a>>
+    ensures streams { OrMemory result (λ pairs. (pair : Pair) × (pairs.items ≡ pair ∷ []) × AreStreams pair) }
     ensures all { IfOk result (λ pairs. length pairs.items ≡ 1) }
-    ensures refused { IfErr result (λ fault. fault ≡ Memory) }
 {
     let Ok(mut pairs) = Vec::with_capacity(alloc, 1) else {
         return Err(Fault::Memory);
@@ -296,8 +310,7 @@ pub fn stream_pair<'a>(alloc: Global) -> Result<Vec<Pair<'a>>, Fault<'a>>
 /// # Errors
 /// `Memory`.
 pub fn inputs_of<'a>(alloc: Global, named: &[(&'a str, &'a str)]) -> Result<Vec<&'a str>, Fault<'a>>
-    ensures named { IfOk result (λ inputs. texts inputs.items ≡ inputs_in named.now) }
-    ensures refused { IfErr result (λ fault. fault ≡ Memory) }
+    ensures { OrMemory result (λ inputs. texts inputs.items ≡ inputs_in named.now) }
 {
     let mut inputs = Vec::new(alloc);
     for index in 0..named.len() {
@@ -353,8 +366,8 @@ pub fn ports_of<'p, 'a, R: Eprint + Wait>(
     pairs: &'p [Pair<'a>],
     log: bool,
 ) -> Result<Vec<PairPort<'p, 'a, R>>, Fault<'a>>
+    ensures ports { OrMemory result (λ ports. AllZip (IsPortOf log) (numbered pairs.now) ports.items) }
     ensures all { IfOk result (λ ports. length ports.items ≡ length pairs.now) }
-    ensures refused { IfErr result (λ fault. fault ≡ Memory) }
 {
     let Ok(mut ports) = Vec::with_capacity(host.alloc(), pairs.len()) else {
         return Err(Fault::Memory);
@@ -385,8 +398,8 @@ pub fn names_of<'a, R: Wait>(
     alloc: Global,
     pairs: &[Pair<'a>],
 ) -> Result<Vec<PortNames<'a>>, Fault<'a>>
+    ensures names { OrMemory result (λ names. AllZip AreNamesOf pairs.now names.items) }
     ensures all { IfOk result (λ names. length names.items ≡ length pairs.now) }
-    ensures refused { IfErr result (λ fault. fault ≡ Memory) }
 {
     let Ok(mut names) = Vec::with_capacity(alloc, pairs.len()) else {
         return Err(Fault::Memory);
@@ -400,7 +413,8 @@ pub fn names_of<'a, R: Wait>(
 /// Writes the same names again, once the stations have ended.
 pub fn name_ended<'a, R: Wait>(rt: &R, names: &mut [PortNames<'a>], pairs: &[Pair<'a>])
     requires { length names.old ≡ length pairs.now }
-    ensures { length names.new ≡ length names.old }
+    ensures names { AllZip AreNamesOf pairs.now names.new }
+    ensures all { length names.new ≡ length names.old }
 {
     for index in 0..pairs.len() {
         names[index] = pairs[index].names(rt);

@@ -1,4 +1,6 @@
 //! How far a run has come, reported while it goes on.
+ghost use Rattle.std.specs.Prelude.{◌≡◌, IfOk, None, false, is_some, length, option_map, true};
+ghost use Rattle.served_disk.specs.Counts.{at_station};
 
 use crate::doorbell::Doorbell;
 use crate::pace::Pace;
@@ -36,7 +38,9 @@ pub struct Progress<'r, R> {
 const BETWEEN_REPORTS: u64 = 1;
 
 /// A count of 0 lines for each station.
-fn no_lines(alloc: Global, stations: usize) -> Result<Vec<AtomicU64>, AllocError> {
+fn no_lines(alloc: Global, stations: usize) -> Result<Vec<AtomicU64>, AllocError>
+    ensures { IfOk result (λ lines. length lines.items ≡ stations) }
+{
     let mut lines = Vec::with_capacity(alloc, stations)?;
     for _ in 0..stations {
         lines.push(AtomicU64::new(0))?;
@@ -46,7 +50,11 @@ fn no_lines(alloc: Global, stations: usize) -> Result<Vec<AtomicU64>, AllocError
 
 impl<'r, R: Clock + Eprint> Progress<'r, R> {
     /// Nothing is served yet. It is never reported if it is not watched or there is no clock.
-    fn new(rt: &'r R, watched: bool, is_alone: bool, lines: Vec<AtomicU64>) -> Self {
+    fn new(rt: &'r R, watched: bool, is_alone: bool, lines: Vec<AtomicU64>) -> Self
+        ensures unwatched { watched ≡ false → result.pace.began ≡ None }
+        ensures alone { result.is_alone ≡ is_alone }
+        ensures lines { result.lines ≡ lines }
+    {
         let pace = Pace::new(rt, watched);
         let rest = pace
             .is_watched()
@@ -62,7 +70,11 @@ impl<'r, R: Clock + Eprint> Progress<'r, R> {
     }
 
     /// The progress of station 1 alone, which no flusher serves.
-    pub fn of_one(rt: &'r R, alloc: Global, watched: bool) -> Result<Self, AllocError> {
+    pub fn of_one(rt: &'r R, alloc: Global, watched: bool) -> Result<Self, AllocError>
+        ensures unwatched { IfOk result (λ progress. watched ≡ false → progress.pace.began ≡ None) }
+        ensures alone { IfOk result (λ progress. progress.is_alone ≡ true) }
+        ensures lines { IfOk result (λ progress. length progress.lines.items ≡ 1) }
+    {
         let lines = no_lines(alloc, 1)?;
         Ok(Progress::new(rt, watched, true, lines))
     }
@@ -73,19 +85,27 @@ impl<'r, R: Clock + Eprint> Progress<'r, R> {
         alloc: Global,
         watched: bool,
         stations: usize,
-    ) -> Result<Self, AllocError> {
+    ) -> Result<Self, AllocError>
+        ensures unwatched { IfOk result (λ progress. watched ≡ false → progress.pace.began ≡ None) }
+        ensures beside { IfOk result (λ progress. progress.is_alone ≡ false) }
+        ensures lines { IfOk result (λ progress. length progress.lines.items ≡ stations) }
+    {
         let lines = no_lines(alloc, stations)?;
         Ok(Progress::new(rt, watched, false, lines))
     }
 
     /// How many lines of a station are known to be served.
-    fn lines_of(&self, station: Station) -> Option<&AtomicU64> {
+    fn lines_of(&self, station: Station) -> Option<&AtomicU64>
+        ensures { option_map (λ known. known.now) result ≡ at_station self.now.lines.items station }
+    {
         let place = usize::from(station.number()).checked_sub(1)?;
         self.lines.get(place)
     }
 
     /// Whether anybody watches. Else nothing is counted.
-    pub(crate) fn is_watched(&self) -> bool {
+    pub(crate) fn is_watched(&self) -> bool
+        ensures { result ≡ is_some self.now.pace.began }
+    {
         self.pace.is_watched()
     }
 

@@ -1,25 +1,22 @@
 //! The text of what is left of the register on a damaged disk.
-ghost use Rattle.std.specs.Prelude.{◌≡◌, ◌⊎◌, ◌++◌, ◌∷◌, ◌≤◌, ◌<◌, ℕ, List, [], IfErr, IfOk, IfSome, IsErrOf, MatchOption, None, OnOk};
+ghost use Rattle.std.specs.Prelude.{◌≡◌, ◌⊎◌, ◌++◌, ◌≤◌, ◌<◌, ℕ, IfErr, IfOk, IfSome, IsErrOf, OnOk};
 ghost use Rattle.std.specs.Io.KnownBytes.{Appends};
 ghost use Rattle.sector_disk.specs.Disk.{HasFailed};
 ghost use Rattle.sector_disk.specs.Reading.{before_reads};
-ghost use Rattle.sector_disk.specs.declared.record.Call.TheVariants.{Sync};
-ghost use Rattle.file_disk.specs.Disk.{IsNew, calls_of, file_view};
+ghost use Rattle.file_disk.specs.Disk.{calls_of};
 ghost use Rattle.checkpoint.specs.Layout.{disk_size};
 ghost use Rattle.recovery.specs.declared.fault.StoreFault.{StoreFault};
 ghost use Rattle.recovery.specs.declared.fault.StoreFault.TheVariants.{DiskFault, NoMemory};
-ghost use Rattle.recovery.specs.Checking.{IsDamagedAt, IsOfCheck};
+ghost use Rattle.recovery.specs.Checking.{IsDamagedAt, IsNoDamage};
 ghost use Rattle.recovery.specs.Opening.{Fails};
 ghost use Rattle.recovery.specs.Opens.{opens};
-ghost use Rattle.recovery.specs.Rests.{HasNoRest, IsRestOf};
-ghost use Rattle.register_text.specs.Passing.{IsUnwritten, IsWritten};
-ghost use Rattle.served_disk.specs.Calls.{IsOnlyRead, IsReadAtMost};
+ghost use Rattle.recovery.specs.Rests.{HasLaterOnDisk, IsDiskRest};
+ghost use Rattle.served_disk.specs.Calls.{IsOnlyRead, IsReadRefused, WasRead, WasReadAtMost};
 ghost use Rattle.served_disk.specs.Dumping.{IsOfDiskDump, ReportsDump};
-ghost use Rattle.served_disk.specs.Making.{IsOfTaking};
-ghost use Rattle.served_disk.specs.Named.{IsRefused, OnDisk};
-ghost use Rattle.served_disk.specs.Rests.{HasNoRestText, IsOfRest, IsRestReported, IsRestReportedOn, IsRestText};
+ghost use Rattle.served_disk.specs.Named.{InFile, IsRefusedIn};
+ghost use Rattle.served_disk.specs.Rests.{HasNoRestText, IsOfRest, IsRestReportedOn, IsRestWritten, IsRestWrittenOn};
 ghost use Rattle.served_disk.specs.Rests.{lacking_radios_text, lacking_stations_text, lacking_text, left_out_text};
-ghost use Rattle.served_disk.specs.Rests.{no_rest_line, rest_line, stop_text, taken_text};
+ghost use Rattle.served_disk.specs.Rests.{line_of, line_of_found, stop_text, taken_text, without_damage};
 
 use crate::checking::report_on;
 use crate::dumping::dump;
@@ -120,8 +117,7 @@ fn print_stop<W: Write>(out: &mut W, stop: Option<u64>, later: u64) -> io::Resul
 /// Writes the line of what is left.
 #[tactic(auto, using(std::proofs::Common::append_assoc))]
 fn print_rest<A: Allocator + Clone, W: Write>(out: &mut W, rest: &Rest<A>) -> io::Result<()>
-    ensures { OnOk result (Appends (W.contents out.old) (W.contents out.new)
-        (rest_line rest.now.side rest.now.epoch rest.now.register.count rest.now.left_out rest.now.stop rest.now.later)) }
+    ensures { OnOk result (Appends (W.contents out.old) (W.contents out.new) (line_of rest.now)) }
 {
     print_taken(out, rest.side, rest.epoch, rest.register.count())?;
     print_left_out(out, &rest.left_out)?;
@@ -133,8 +129,7 @@ fn add_rest<A: Allocator + Clone, B: Allocator>(
     text: &mut Vec<u8, B>,
     rest: &Option<Rest<A>>,
 ) -> Result<(), StoreFault>
-    ensures added { OnOk result (MatchOption rest.now (text.new.items ≡ text.old.items ++ no_rest_line)
-        (λ rest. text.new.items ≡ text.old.items ++ rest_line rest.side rest.epoch rest.register.count rest.left_out rest.stop rest.later)) }
+    ensures added { OnOk result (text.new.items ≡ text.old.items ++ line_of_found rest.now) }
     ensures kinds { IfErr result (λ fault. fault ≡ NoMemory) }
 {
     let printed = match rest {
@@ -155,14 +150,11 @@ fn read_and_report<A: Allocator + Copy + Drop, D: Disk>(
 ) -> Result<(Option<Rest<A>>, RestReport<A>), StoreFault>
     requires room { disk_size checked.now.layout ≤ (D.view disk.old).sectors }
     requires on_disk { (at : ℕ) → IsDamagedAt at checked.now.a ⊎ IsDamagedAt at checked.now.b → at < (D.view disk.old).sectors }
-    ensures reported { IfOk result (λ r. MatchOption r.0
-        (IsRestReportedOn A checked.now (D.view disk.old).honest (D.view disk.old).reads no_rest_line r.1.text.items r.1.whole)
-        (λ rest. IsRestReportedOn A checked.now (D.view disk.old).honest (D.view disk.old).reads
-        (rest_line rest.side rest.epoch rest.register.count rest.left_out rest.stop rest.later) r.1.text.items r.1.whole)) }
-    ensures left { IfOk result (λ r. (D.view disk.old).honest → MatchOption r.0 (HasNoRest A (D.view disk.old).reads)
-        (λ rest. IsRestOf A (D.view disk.old).reads rest.side rest.epoch rest.left_out rest.register rest.stop)) }
+    ensures reported { IfOk result (λ r. IsRestReportedOn A checked.now (line_of_found r.0) r.1.text.items r.1.whole (D.view disk.old)) }
+    ensures left { IfOk result (λ r. (D.view disk.old).honest → IsDiskRest A (D.view disk.old).reads r.0) }
+    ensures after { IfOk result (λ r. (D.view disk.old).honest → IfSome r.0 (HasLaterOnDisk A (D.view disk.old).reads)) }
     ensures faults { IfErr result (λ fault. (D.view disk.old).honest → Fails fault (opens A (D.view disk.old).reads)) }
-    ensures kinds { IfErr result IsOfCheck }
+    ensures kinds { IfErr result IsNoDamage }
     ensures only_reads { before_reads (D.view disk.new).calls ≡ before_reads (D.view disk.old).calls }
     ensures fault { IsErrOf result DiskFault → HasFailed (D.view disk.old) (D.view disk.new) }
 {
@@ -189,11 +181,8 @@ fn write_rest<A: Allocator + Copy + Drop, D: Disk, W: TextSink>(
 ) -> Result<RestReport<A>, DiskDumpFault>
     requires room { disk_size checked.now.layout ≤ (D.view disk.old).sectors }
     requires on_disk { (at : ℕ) → IsDamagedAt at checked.now.a ⊎ IsDamagedAt at checked.now.b → at < (D.view disk.old).sectors }
-    ensures written { IfOk result (λ report. (line : List ℕ)
-        × IsRestReportedOn A checked.now (D.view disk.old).honest (D.view disk.old).reads line report.text.items report.whole
-        × IsRestText A (D.view disk.old).honest (D.view disk.old).reads line (W.contents out.old) (W.contents out.new)
-        (λ text. IsWritten W.took W.flushed text out.old out.new) (out.new ≡ out.old)) }
-    ensures refused { IfErr result (HasNoRestText A (λ text. IsUnwritten W.took W.failed text out.old out.new) (D.view disk.old) (D.view disk.new)) }
+    ensures written { IfOk result (λ report. IsRestWrittenOn A W.contents W.took W.flushed out.old out.new checked.now report (D.view disk.old)) }
+    ensures refused { IfErr result (HasNoRestText A W.took W.failed out.old out.new (D.view disk.old) (D.view disk.new)) }
     ensures unwritten { IfErr result (λ e. (fault : StoreFault) → e ≡ DiskDumpFault.Opening fault → out.new ≡ out.old) }
     ensures only_reads { before_reads (D.view disk.new).calls ≡ before_reads (D.view disk.old).calls }
     ensures kinds { IfErr result IsOfRest }
@@ -213,6 +202,16 @@ fn write_rest<A: Allocator + Copy + Drop, D: Disk, W: TextSink>(
     }
 }
 
+/// A fault of a check, where damage is no fault: it was found before memory ran out.
+fn without_damage(fault: StoreFault) -> StoreFault
+    ensures { result ≡ without_damage fault }
+{
+    match fault {
+        StoreFault::Damaged(_) => StoreFault::NoMemory,
+        other => other,
+    }
+}
+
 /// Checks both sides of a disk, and writes the text of what is left of its register. The disk is synced once, and then only read. It
 /// is returned, also after a fault.
 ///
@@ -224,20 +223,17 @@ pub fn rest_on<A: Allocator + Copy + Drop, D: Disk, W: TextSink>(
     disk: D,
     out: &mut W,
 ) -> Result<(RestReport<A>, D), (DiskDumpFault, D)>
-    ensures written { IfOk result (λ r. (line : List ℕ) × IsRestReported A (D.view disk).honest (D.view disk).reads line r.0.text.items r.0.whole
-        × IsRestText A (D.view disk).honest (D.view disk).reads line (W.contents out.old) (W.contents out.new)
-        (λ text. IsWritten W.took W.flushed text out.old out.new) (out.new ≡ out.old)) }
-    ensures refused { IfErr result (λ e. HasNoRestText A (λ text. IsUnwritten W.took W.failed text out.old out.new) (D.view disk) (D.view e.1) e.0) }
+    ensures written { IfOk result (λ r. IsRestWritten A W.contents W.took W.flushed out.old out.new r.0 (D.view disk)) }
+    ensures refused { IfErr result (λ e. HasNoRestText A W.took W.failed out.old out.new (D.view disk) (D.view e.1) e.0) }
     ensures unwritten { IfErr result (λ e. (fault : StoreFault) → e.0 ≡ DiskDumpFault.Opening fault → out.new ≡ out.old) }
-    ensures calls { IfOk result (λ r. before_reads (D.view r.1).calls ≡ (D.view disk).calls ++ Sync ∷ []) }
-    ensures some_calls { IfErr result (λ e. (before_reads (D.view e.1).calls ≡ (D.view disk).calls ++ Sync ∷ [])
-        ⊎ ((e.0 ≡ DiskDumpFault.Opening DiskFault) × ((D.view e.1).calls ≡ (D.view disk).calls))) }
+    ensures calls { IfOk result (λ r. WasRead (D.view disk) (D.view r.1)) }
+    ensures some_calls { IfErr result (λ e. WasReadAtMost (e.0 ≡ DiskDumpFault.Opening DiskFault) (D.view disk) (D.view e.1)) }
     ensures kinds { IfErr result (λ e. IsOfRest e.0) }
 {
     let mut disk = disk;
     let checked = match check(alloc, &mut disk) {
         Ok(checked) => checked,
-        Err(fault) => return Err((DiskDumpFault::Opening(fault), disk)),
+        Err(fault) => return Err((DiskDumpFault::Opening(without_damage(fault)), disk)),
     };
     match write_rest(alloc, &mut disk, &checked, out) {
         Ok(report) => Ok((report, disk)),
@@ -257,17 +253,10 @@ pub fn rest_disk<'a, F: SectorFile, R: DiskFiles<F> + Clock + Eprint, W: TextSin
     tally: &Tally<'_, R>,
     out: &mut W,
 ) -> Result<(RestReport<Global>, FileDisk<F>), Refused<'a, F>>
-    ensures written { IfOk result (λ r. OnDisk (R.adopted rt.now name.now) IsNew (λ disk. (line : List ℕ)
-        × IsRestReported Global (file_view F.view disk).honest (file_view F.view disk).reads line r.0.text.items r.0.whole
-        × IsRestText Global (file_view F.view disk).honest (file_view F.view disk).reads line (W.contents out.old) (W.contents out.new)
-        (λ text. IsWritten W.took W.flushed text out.old out.new) (out.new ≡ out.old))) }
-    ensures refused { IfErr result (λ e. IsRefused (R.adopted rt.now name.now) IsNew name.now
-        (λ old new. ReportsDump (HasNoRestText Global (λ text. IsUnwritten W.took W.failed text out.old out.new) (file_view F.view old) (file_view F.view new)))
-        e.fault e.disk) }
+    ensures written { IfOk result (λ r. InFile F.view (R.adopted rt.now) name.now (IsRestWritten Global W.contents W.took W.flushed out.old out.new r.0)) }
+    ensures refused { IfErr result (IsRefusedIn F.view (R.adopted rt.now) name.now (ReportsDump (HasNoRestText Global W.took W.failed out.old out.new))) }
     ensures calls { IfOk result (λ r. IsOnlyRead (calls_of r.1)) }
-    ensures some_calls { IfErr result (λ e. IfSome e.disk (λ disk. IsReadAtMost e.fault (calls_of disk))) }
-    ensures kinds { IfErr result (λ e. IsOfDiskDump name.now e.fault) }
-    ensures none { IfErr result (λ e. e.disk ≡ None → IsOfTaking name.now e.fault) }
+    ensures reading { IfErr result (IsReadRefused IsOfDiskDump name.now) }
 {
     let disk = adopt_disk(rt, name)?;
     let counted = CountedDisk::new(disk, tally);

@@ -47,7 +47,9 @@ fn served_in(pairs: &[Pair<'_>]) -> usize
 impl<'r, 'p, 'a, R: Eprint + Wait> ServiceWatch<'r, 'p, 'a, R> {
     /// For the stations of these pairs. None has ended yet.
     pub fn new(rt: &'r R, alloc: Global, pairs: &'p [Pair<'a>], manner: Manner<'r>) -> Self
-        ensures { result.pairs ≡ pairs.entry }
+        ensures alloc { result.alloc ≡ alloc }
+        ensures pairs { result.pairs ≡ pairs.entry }
+        ensures manner { result.manner ≡ manner.entry }
     {
         ServiceWatch {
             rt,
@@ -109,7 +111,9 @@ impl<'r, 'p, 'a, R: Eprint + Wait> ServiceWatch<'r, 'p, 'a, R> {
     }
 
     /// Where the memory for the line of a fault comes from.
-    pub fn alloc(&self) -> Global {
+    pub fn alloc(&self) -> Global
+        ensures { result ≡ self.now.alloc }
+    {
         self.alloc
     }
 

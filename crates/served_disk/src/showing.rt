@@ -1,11 +1,10 @@
 //! One query or listing of a register, answered without a station.
-ghost use Rattle.std.specs.Prelude.{◌≡◌, ◌≤◌, [], IfOk, MatchResult, vec_capacity};
+ghost use Rattle.std.specs.Prelude.{◌≡◌, ◌≤◌, [], IfOk, vec_capacity};
 ghost use Rattle.desk.specs.OfRegister.{of_register};
 ghost use Rattle.listings.specs.Parts.{answer_room};
-ghost use Rattle.console.specs.declared.line.Line.TheVariants.{Print};
 ghost use Rattle.console.specs.Dialogue.{AnswersQuery};
 ghost use Rattle.console.specs.Reading.{reading};
-ghost use Rattle.served_disk.specs.Showing.{HasNoListing, IsListingOf, IsShown, IsTextOf, ShowsReading};
+ghost use Rattle.served_disk.specs.Showing.{IsListingOf, IsShown, IsTextOf, ShowsOrLists};
 
 use centre_core::{Query, Register};
 use console::{Answer, Line, LineFault, Outage, parse_line, print_answer};
@@ -43,8 +42,7 @@ fn answer<A: Allocator + Copy, B: Allocator + Clone>(
     register: &Register<B>,
     line: &[u8],
 ) -> Result<Answer<A>, Listing>
-    ensures { MatchResult result (λ answer. ShowsReading register.now (reading 1 line.now) answer × HasNoListing A (reading 1 line.now))
-        (λ listing. reading {A = A} 1 line.now ≡ Print listing) }
+    ensures { ShowsOrLists register.now (reading 1 line.now) result }
 {
     let Ok(said) = parse_line(alloc, Station::new(1), line) else {
         return Ok(Answer::Bad(1, LineFault::Syntax));

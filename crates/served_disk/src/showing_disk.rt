@@ -1,15 +1,13 @@
 //! One query of the register on a disk, or the disk's figures.
-ghost use Rattle.std.specs.Prelude.{◌≡◌, ◌⊎◌, ◌++◌, ◌∷◌, [], IfErr, IfOk, IfSome, None, false};
-ghost use Rattle.sector_disk.specs.Reading.{before_reads};
-ghost use Rattle.sector_disk.specs.declared.record.Call.TheVariants.{Sync};
-ghost use Rattle.file_disk.specs.Disk.{IsNew, calls_of, file_view};
+ghost use Rattle.std.specs.Prelude.{◌≡◌, IfErr, IfOk, false};
+ghost use Rattle.file_disk.specs.Disk.{calls_of};
 ghost use Rattle.recovery.specs.declared.fault.StoreFault.TheVariants.{DiskFault};
 ghost use Rattle.recovery.specs.Figures.{figures_at};
 ghost use Rattle.recovery.specs.Lives.{view_of};
 ghost use Rattle.recovery.specs.Opening.{IsOfOpening as IsOfStoreOpening};
-ghost use Rattle.served_disk.specs.Calls.{IsOnlyRead, IsReadAtMost};
-ghost use Rattle.served_disk.specs.Making.{IsOfOpening, IsOfTaking};
-ghost use Rattle.served_disk.specs.Named.{IsRefused, OnDisk};
+ghost use Rattle.served_disk.specs.Calls.{IsOnlyRead, IsReadRefused, WasRead, WasReadAtMost};
+ghost use Rattle.served_disk.specs.Making.{IsOfOpening};
+ghost use Rattle.served_disk.specs.Named.{InFile, IsRefusedIn};
 ghost use Rattle.served_disk.specs.Refusals.{IsUnshown, Reports};
 ghost use Rattle.served_disk.specs.Showing.{IsShownBy, IsShownFor};
 
@@ -40,17 +38,16 @@ fn show_store<A: Allocator + Copy + Drop, D: Disk>(
 /// is synced once, and then only read. It is returned, also after a fault.
 ///
 /// # Errors
-/// A fault of what is on the disk, the device if it has failed, and out of memory, which hides no fault that was read.
+/// A fault of what is on the disk, the device if it has failed, and out of memory, which hides no bad row or record that was read.
 pub fn show_on<A: Allocator + Copy + Drop, D: Disk>(
     alloc: A,
     disk: D,
     line: &[u8],
 ) -> Result<(Shown<A>, D), (StoreFault, D)>
-    ensures shown { IfOk result (λ r. IsShownBy A (D.view disk).honest (D.view disk).reads line.now r.0.text.items r.0.troubled) }
+    ensures shown { IfOk result (λ r. IsShownBy A line.now r.0.text.items r.0.troubled (D.view disk)) }
     ensures refused { IfErr result (λ e. IsUnshown A (D.view disk) (D.view e.1) e.0) }
-    ensures calls { IfOk result (λ r. before_reads (D.view r.1).calls ≡ (D.view disk).calls ++ Sync ∷ []) }
-    ensures some_calls { IfErr result (λ e. (before_reads (D.view e.1).calls ≡ (D.view disk).calls ++ Sync ∷ [])
-        ⊎ ((e.0 ≡ DiskFault) × ((D.view e.1).calls ≡ (D.view disk).calls))) }
+    ensures calls { IfOk result (λ r. WasRead (D.view disk) (D.view r.1)) }
+    ensures some_calls { IfErr result (λ e. WasReadAtMost (e.0 ≡ DiskFault) (D.view disk) (D.view e.1)) }
     ensures kinds { IfErr result (λ e. IsOfStoreOpening e.0) }
 {
     let store = Store::open(alloc, disk)?;
@@ -72,14 +69,10 @@ pub fn show_disk<'a, F: SectorFile, R: DiskFiles<F>>(
     name: &'a str,
     line: &[u8],
 ) -> Result<(Shown<Global>, FileDisk<F>), Refused<'a, F>>
-    ensures shown { IfOk result (λ r. OnDisk (R.adopted rt.now name.now) IsNew
-        (λ disk. IsShownBy Global (file_view F.view disk).honest (file_view F.view disk).reads line.now r.0.text.items r.0.troubled)) }
-    ensures refused { IfErr result (λ e. IsRefused (R.adopted rt.now name.now) IsNew name.now
-        (λ old new. Reports (IsUnshown Global (file_view F.view old) (file_view F.view new))) e.fault e.disk) }
+    ensures shown { IfOk result (λ r. InFile F.view (R.adopted rt.now) name.now (IsShownBy Global line.now r.0.text.items r.0.troubled)) }
+    ensures refused { IfErr result (IsRefusedIn F.view (R.adopted rt.now) name.now (Reports (IsUnshown Global))) }
     ensures calls { IfOk result (λ r. IsOnlyRead (calls_of r.1)) }
-    ensures some_calls { IfErr result (λ e. IfSome e.disk (λ disk. IsReadAtMost e.fault (calls_of disk))) }
-    ensures kinds { IfErr result (λ e. IsOfOpening name.now e.fault) }
-    ensures none { IfErr result (λ e. e.disk ≡ None → IsOfTaking name.now e.fault) }
+    ensures reading { IfErr result (IsReadRefused IsOfOpening name.now) }
 {
     let disk = adopt_disk(rt, name)?;
     match show_on(alloc, disk, line) {

@@ -1,4 +1,6 @@
 //! How far a dump, a loading or a check has come, reported while it goes on.
+ghost use Rattle.std.specs.Prelude.{codes};
+ghost use Rattle.served_disk.specs.Counts.{IsTallyOf};
 
 use crate::pace::Pace;
 use crate::watched::ends_in;
@@ -19,7 +21,9 @@ pub struct Tally<'r, R> {
 
 impl<'r, R: Clock + Eprint> Tally<'r, R> {
     /// Nothing is done yet. It is never reported if it is not watched or there is no clock.
-    fn new(rt: &'r R, watched: bool, unit: &'static str) -> Self {
+    fn new(rt: &'r R, watched: bool, unit: &'static str) -> Self
+        ensures { IsTallyOf unit.now watched result }
+    {
         Tally {
             rt,
             unit,
@@ -29,12 +33,16 @@ impl<'r, R: Clock + Eprint> Tally<'r, R> {
     }
 
     /// A tally of lines.
-    pub fn of_lines(rt: &'r R, watched: bool) -> Self {
+    pub fn of_lines(rt: &'r R, watched: bool) -> Self
+        ensures { IsTallyOf (codes "lines") watched result }
+    {
         Tally::new(rt, watched, "lines")
     }
 
     /// A tally of sectors.
-    pub fn of_sectors(rt: &'r R, watched: bool) -> Self {
+    pub fn of_sectors(rt: &'r R, watched: bool) -> Self
+        ensures { IsTallyOf (codes "sectors") watched result }
+    {
         Tally::new(rt, watched, "sectors")
     }
 

@@ -1,5 +1,6 @@
 //! A reader and a desk that pass each call on, and count it.
 ghost use Rattle.std.specs.Prelude.{◌≡◌};
+ghost use Rattle.served_disk.specs.Counts.{ends_in};
 
 use crate::Progress;
 use centre_core::{Command, Query, QueryAnswer, Reply};
@@ -24,7 +25,10 @@ pub struct WatchedReader<'p, 'r, R, C> {
 impl<'p, 'r, R: Read, C: Clock + Eprint> WatchedReader<'p, 'r, R, C> {
     /// This reader. `progress` counts its lines as this station's.
     pub fn new(reader: R, station: Station, progress: &'p Progress<'r, C>) -> Self
-        ensures { result.reader ≡ reader }
+        ensures reader { result.reader ≡ reader }
+        ensures station { result.station ≡ station }
+        ensures progress { result.progress.now ≡ progress.now }
+        ensures lines { result.lines ≡ 0 }
     {
         WatchedReader {
             reader,
@@ -36,7 +40,9 @@ impl<'p, 'r, R: Read, C: Clock + Eprint> WatchedReader<'p, 'r, R, C> {
 }
 
 /// How many lines end in a piece.
-pub(crate) fn ends_in(piece: &[u8]) -> u64 {
+pub(crate) fn ends_in(piece: &[u8]) -> u64
+    ensures { result ≡ ends_in piece.now }
+{
     piece.iter().filter(|byte| **byte == b'\n').count() as u64
 }
 
@@ -67,7 +73,9 @@ pub struct WatchedDesk<'p, 'r, D, C> {
 impl<'p, 'r, D, C: Clock + Eprint> WatchedDesk<'p, 'r, D, C> {
     /// This desk. `progress` counts its answers as this station's.
     pub fn new(desk: D, station: Station, progress: &'p Progress<'r, C>) -> Self
-        ensures { result.desk ≡ desk }
+        ensures desk { result.desk ≡ desk }
+        ensures station { result.station ≡ station }
+        ensures progress { result.progress.now ≡ progress.now }
     {
         WatchedDesk {
             desk,

@@ -1,5 +1,7 @@
 -- Names gone through in order: what is so far, and the first that came earlier.
-use Rattle.std.proofs.Common.{◌≡◌, ◌≢◌, ℕ, ◌+◌, ◌-◌, ◌<◌, ◌≤◌, Bool, true, false, ◌||◌, cond, List, [], ◌∷◌, ◌++◌, length, map, take, drop, get_or, find, Option, Some, None, is_some, option_map, String, string_bytes, true≢false, Result, Ok, Err, IfErr, refl, ap, sym, subst, ◌∙◌, arith}
+use Rattle.std.proofs.Common.{◌≡◌, ◌≢◌, ℕ, ◌+◌, ◌-◌, ◌<◌, ◌≤◌, Bool, true, false, ◌||◌, cond, List, [], ◌∷◌, ◌++◌, length, map, take, drop, get_or}
+use Rattle.std.proofs.Common.{find, Option, Some, None, is_some, option_map, String, string_bytes, true≢false, Result, Ok, Err, IfErr, refl, ap, sym}
+use Rattle.std.proofs.Common.{subst, ◌∙◌, arith}
 use Rattle.std.specs.Borrow.{Bor}
 use Rattle.std.specs.Cmp.Lexicographic.{nat_list_eq_equiv}
 use Rattle.std.specs.Prelude.{bytes_eq}
@@ -12,7 +14,6 @@ use Rattle.std.proofs.lemmas.Option.{none-some, same_Some}
 use Rattle.settings.specs.declared.naming.NameFault.{NameFault}
 use Rattle.settings.specs.declared.naming.NameFault.TheVariants.{Twice, NoMemory}
 use Rattle.std.proofs.lemmas.List.FromFn.{length-enumerate_from}
-use Rattle.std.proofs.Math.Seq.{drop-length}
 use Rattle.settings.specs.Naming.{first_twice, is_among, names_of, placed, came_earlier, texts}
 
 -- the first place after i whose name came earlier
@@ -23,9 +24,6 @@ pub from_the_first : (names : List (List ℕ)) → first_twice names ≡ twice_a
 unfolding first_twice
 from_the_first names = refl
 
-pub to_the_end : (names : List (List ℕ)) → twice_after names (length names) ≡ None
-to_the_end names = ap (λ rest. option_map (λ p. p.0) (find (came_earlier names) (enumerate_from (length names + 1) rest))) (drop-length names)
-
 pub twice_step : (names : List (List ℕ)) (i : ℕ) → i < length names
     → twice_after names i ≡ cond (is_among (take i names) (get_or names i [])) (Some (i + 1)) (twice_after names (i + 1))
 twice_step names i within =
@@ -33,7 +31,9 @@ twice_step names i within =
     ap (λ rest. option_map (λ p. p.0) (find (came_earlier names) (enumerate_from (i + 1) rest))) (drop_more names i [] within)
     ∙ by (is_among (take (i + 1 - 1) names) (get_or names i [])) (is_among (take i names) (get_or names i [])) (ap (λ n. is_among (take n names) (get_or names i [])) at)
   where
-    by : (b c : Bool) → b ≡ c → option_map (λ p. p.0) (cond b (Some (i + 1, get_or names i [])) (find (came_earlier names) (enumerate_from (i + 1 + 1) (drop (i + 1) names)))) ≡ cond c (Some (i + 1)) (twice_after names (i + 1))
+    by : (b c : Bool) → b ≡ c →
+        option_map (λ p. p.0) (cond b (Some (i + 1, get_or names i [])) (find (came_earlier names) (enumerate_from (i + 1 + 1) (drop (i + 1) names))))
+        ≡ cond c (Some (i + 1)) (twice_after names (i + 1))
     by true true same = refl
     by false false same = refl
     by true false same = absurd (true≢false same)
@@ -84,7 +84,8 @@ pub found_among : {A : Type 0} (entries : List (String A × ℕ)) (name : List �
 found_among [] name = refl
 found_among (entry ∷ rest) name = by (bytes_eq name (string_bytes entry.0)) (found_among rest name)
   where
-    by : (b : Bool) → is_some (lookup (λ key. bytes_eq name (string_bytes key)) rest) ≡ is_among (names_of (map as_place rest)) name → is_some (cond b (Some entry.1) (lookup (λ key. bytes_eq name (string_bytes key)) rest)) ≡ (b || is_among (names_of (map as_place rest)) name)
+    by : (b : Bool) → is_some (lookup (λ key. bytes_eq name (string_bytes key)) rest) ≡ is_among (names_of (map as_place rest)) name →
+        is_some (cond b (Some entry.1) (lookup (λ key. bytes_eq name (string_bytes key)) rest)) ≡ (b || is_among (names_of (map as_place rest)) name)
     by true found = refl
     by false found = found
 

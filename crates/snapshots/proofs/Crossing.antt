@@ -95,9 +95,6 @@ reader_send V P g = reader_crosses.the_send snapshot.the_row V P Heap.the_row g 
 pub published_send : (T : RattleType) (g : centre.Ghosts T.Denot) → IsSend T → IsSend (published.the_row T g)
 published_send T g s = search (sendable, seen.the_send) depth 20
 
-pub published_sync : (T : RattleType) (g : centre.Ghosts T.Denot) → IsSync T → IsSync (published.the_row T g)
-published_sync T g s = search (sendable, seen.the_sync) depth 20
-
 inside_send : (T : RattleType) (g : centre.Ghosts T.Denot) → IsSend T → IsSend (inside.the_row T g)
 inside_send T g s =
     let reads = reader_send view.the_row (rule.the_row T) (protocol.ghosts T g protocol.no_dict) in

@@ -35,7 +35,8 @@ pub admits : (base : State) (book : Book) → Admits (IsSeenBy base book) (view_
 admits base book x views h = (h.0, begin_snoc x.list.log views (view_of []) (x.list.log, refl) h.1)
 
 -- from x to y, whose list begins with that of x
-pub turns : (base : State) (book : Book) (seat : ℕ) (v : View) (x y : Snapshot) → IsSnapshot base book y → IsPrefix x.list.log y.list.log → TurnsAt (IsSeenBy base book) seat v x y (λ v x y w. Sees base book v y w)
+pub turns : (base : State) (book : Book) (seat : ℕ) (v : View) (x y : Snapshot) → IsSnapshot base book y → IsPrefix x.list.log y.list.log →
+    TurnsAt (IsSeenBy base book) seat v x y (λ v x y w. Sees base book v y w)
 turns base book seat v x y is_so longer views h at =
     let w = view_of y.list.log in (
       w,

@@ -1,4 +1,5 @@
 pub mod Changes
+pub mod Counts
 pub mod Log
 pub mod Publishing
 pub mod Views

@@ -7,6 +7,7 @@
 #![tactic(auto)]
 
 mod appending;
+mod counting;
 mod log;
 mod making;
 mod published;
@@ -17,6 +18,7 @@ mod snapshot;
 mod viewer;
 mod visit;
 
+pub use counting::next_count;
 pub use log::{Centre, NewLog};
 pub use making::{MakeFault, PENDING, PLACES, make};
 pub use published::Published;

@@ -7,8 +7,8 @@ use crate::publisher::Publisher;
 use crate::rule::SnapshotWriter;
 use crate::snapshot::Snapshot;
 use crate::viewer::Viewer;
+use base::TryCopy;
 use centre_core::Register;
-use prefix_tree::TryCopy;
 use std::alloc::{AllocError, Global};
 use std::collections::VecDeque;
 use std::sync::Wait;
@@ -66,7 +66,7 @@ fn new_publisher<J: Centre>(
 ) -> Result<Publisher<J>, AllocError>
     requires centre { (log.seen.book ≡ J.book) × (register ≡ J.base) }
     requires places { (0 < places) × (places ≤ 64) }
-    ensures { IfOk result (λ p. (p.published ≡ []) × (p.appended ≡ [])) }
+    ensures { IfOk result (λ p. (p.published ≡ []) × (p.appended ≡ []) × (p.refusals ≡ 0)) }
 {
     let NewLog { word, seen } = log;
     let base = register.count();
@@ -89,6 +89,7 @@ fn new_publisher<J: Centre>(
         pending,
         base,
         count: 0,
+        refusals: 0,
     })
 }
 
@@ -105,7 +106,7 @@ pub fn make<J: Centre, R: Wait>(
     places: usize,
 ) -> Result<(Publisher<J>, Vec<Viewer<J>>), MakeFault>
     requires centre { (log.seen.book ≡ J.book) × (register ≡ J.base) }
-    ensures publisher { IfOk result (λ r. (r.0.published ≡ []) × (r.0.appended ≡ [])) }
+    ensures publisher { IfOk result (λ r. (r.0.published ≡ []) × (r.0.appended ≡ []) × (r.0.refusals ≡ 0)) }
     ensures viewers { IfOk result (λ r. (length r.1.items ≡ places) × All (λ v. v ≡ []) r.1.items) }
     ensures no_place { (places ≡ 0) ⊎ (64 < places) → result ≡ Err NoPlace }
     ensures only_no_place { IsErrOf result NoPlace → (places ≡ 0) ⊎ (64 < places) }

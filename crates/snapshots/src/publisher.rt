@@ -3,8 +3,10 @@ ghost use Rattle.std.specs.Prelude.{◌≡◌, ◌↔◌, ◌∷◌, ◌++◌, [
 ghost use Rattle.std.specs.Arc.{arc_value};
 ghost use Rattle.centre_core.specs.History.{accepts, after};
 ghost use Rattle.centre_core.specs.Histories.{IsHistory};
+ghost use Rattle.snapshots.specs.Counts.{IsCountedIfRefused};
 
 use crate::appending::added_to_log;
+use crate::counting::next_count;
 use crate::log::{Centre, LogPrefix, LogWord};
 use crate::published::Published;
 use crate::publishing::{hand_over, publish_now};
@@ -16,7 +18,8 @@ use std::collections::VecDeque;
 use std::marker::{Model, PhantomData};
 use std::sync::{Arc, Wait};
 
-/// Contracts model the list that is published, and the list of all that was appended. It is not `Drop`: end it by `close`.
+/// Contracts model the list that is published, the list of all that was appended, and how many calls of `append` and
+/// `publish` were out of memory. After the greatest number that count goes on from 0. It is not `Drop`: end it by `close`.
 pub struct Publisher<J: Centre> {
     pub(crate) writer: SnapshotWriter<J>,
     pub(crate) word: LogWord,
@@ -24,6 +27,8 @@ pub struct Publisher<J: Centre> {
     pub(crate) pending: VecDeque<Change>,
     pub(crate) base: u64,
     pub(crate) count: u64,
+    // How many calls were out of memory.
+    pub(crate) refusals: u64,
 }
 
 impl<J: Centre> Model for Publisher<J> {
@@ -34,12 +39,12 @@ impl<J: Centre> Model for Publisher<J> {
     ghost use Rattle.centre_core.specs.Histories.{IsHistory};
     ghost use Rattle.snapshots.specs.Log.{word_of};
     ghost use Rattle.snapshots.specs.Views.{IsSnapshot};
-    ghost use Rattle.snapshots.specs.Changes.{Lists, lists};
+    ghost use Rattle.snapshots.specs.Changes.{PublisherView, publisher_view};
     ghost use Rattle.snapshots.specs.Publishing.{after_changes};
 
-    ghost Value = { Lists };
+    ghost Value = { PublisherView };
 
-    ghost view = { λ p. lists p.writer.desk.shown.value.list.log p.appended.log };
+    ghost view = { λ p. publisher_view p.writer.desk.shown.value.list.log p.appended.log p.refusals };
 
     ghost invariant = { λ p. (p.word ≡ word_of J.book) × (p.appended.book ≡ J.book) × (p.base ≡ J.base.count) × (p.count ≡ length p.appended.log)
         × IsHistory J.base p.appended.log × IsSnapshot J.base J.book p.writer.desk.shown.value × IsPrefix p.writer.desk.shown.value.list.log p.appended.log
@@ -48,8 +53,8 @@ impl<J: Centre> Model for Publisher<J> {
 }
 
 impl<J: Centre> Publisher<J> {
-    /// Appends a command that is accepted after all that was appended. Out of memory gives the command back. While fewer
-    /// than 64 commands are pending, it needs no memory.
+    /// Appends a command that is accepted after all that was appended. Out of memory is counted, and gives the command back.
+    /// While fewer than 64 commands are pending, it needs no memory.
     pub fn append(
         &mut self,
         command: Arc<Command<Global>, Global>,
@@ -58,13 +63,16 @@ impl<J: Centre> Publisher<J> {
         ensures legal { IsHistory J.base self.new.appended }
         ensures appended { MatchResult result
             (λ _. (self.new.appended ≡ self.old.appended ++ arc_value command ∷ []) × (self.new.published ≡ self.old.published))
-            (λ c. (c ≡ command) × (self.new ≡ self.old)) }
+            (λ c. (c ≡ command) × (self.new.appended ≡ self.old.appended) × (self.new.published ≡ self.old.published)) }
+        ensures counted { IsCountedIfRefused result self.old.refusals self.new.refusals }
     {
         if self.pending.reserve(1).is_err() {
+            self.refusals = next_count(self.refusals);
             return Err(command);
         }
         let mut list = self.appended.again();
         if !added_to_log(&self.word, &mut list, self.count, &command) {
+            self.refusals = next_count(self.refusals);
             return Err(command);
         }
         self.appended = list.again();
@@ -73,18 +81,23 @@ impl<J: Centre> Publisher<J> {
         Ok(())
     }
 
-    /// Publishes all that was appended, at once. It waits for the viewers that still read the older copy. Without memory
-    /// what is published stays, and what is pending stays pending.
+    /// Publishes all that was appended, at once. It waits for the viewers that still read the older copy. Out of memory is
+    /// counted; then what is published stays, and what is pending stays pending.
     pub fn publish<R: Wait>(&mut self, rt: &R) -> Result<(), AllocError>
         ensures appended { self.new.appended ≡ self.old.appended }
         ensures published { MatchResult result (λ _. self.new.published ≡ self.old.appended) (λ _. self.new.published ≡ self.old.published) }
+        ensures counted { IsCountedIfRefused result self.old.refusals self.new.refusals }
     {
         if !hand_over(&mut self.writer, &mut self.pending) {
+            self.refusals = next_count(self.refusals);
             return Err(AllocError);
         }
         match publish_now(rt, &mut self.writer) {
             Ok(()) => Ok(()),
-            Err(fault) => Err(fault),
+            Err(fault) => {
+                self.refusals = next_count(self.refusals);
+                Err(fault)
+            }
         }
     }
 
@@ -116,6 +129,7 @@ impl<J: Centre> Publisher<J> {
             pending: _,
             base: _,
             count: _,
+            refusals: _,
         } = self;
         drop(writer.take(rt));
     }

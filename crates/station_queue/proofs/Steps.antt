@@ -1,5 +1,6 @@
 -- Each step keeps the rule of the queue.
-use Rattle.std.proofs.Common.{◌≡◌, ◌≢◌, ◌⊎◌, inl, inr, ℕ, zero, suc, ◌+◌, ◌-◌, ◌<◌, ◌≤◌, ◌==◌, Bool, true, false, cond, true≢false, List, [], ◌∷◌, ◌++◌, length, set, sym, refl, ap, ◌∙◌, subst, ⊎_elim, append_assoc, length-append, arith}
+use Rattle.std.proofs.Common.{◌≡◌, ◌≢◌, ◌⊎◌, inl, inr, ℕ, zero, suc, ◌+◌, ◌-◌, ◌<◌, ◌≤◌, ◌==◌, Bool, true, false, cond, true≢false, List, [], ◌∷◌}
+use Rattle.std.proofs.Common.{◌++◌, length, set, sym, refl, ap, ◌∙◌, subst, ⊎_elim, append_assoc, length-append, arith}
 use Rattle.std.specs.Prelude.{Option, Some, None, slice_get, All, ⊤}
 use Rattle.atomic_table.specs.Seated.{TableId}
 use Rattle.station_queue.specs.Ends.{Sending, sending}
@@ -7,6 +8,7 @@ use Rattle.std.proofs.lemmas.List.{append-nil}
 use Rattle.std.proofs.lemmas.List.Elements.{All-nil, All-push, All-weaker}
 use Rattle.std.proofs.lemmas.Bool.Decides.{nat_tests}
 use mathlib.Core.Option.{some, some-ne-none, some-injective}
+use Rattle.base.proofs.Numbers.{test_by_same}
 use lib.ListN.{get_elem?}
 use Rattle.crossbeam_queue.specs.Fifo.{Pushes, Pops, Forks, Merges, Learns}
 use Rattle.crossbeam_queue.proofs.Lists.{at_set}
@@ -14,9 +16,6 @@ use Rattle.station_queue.specs.declared.entry.Entry.{Entry}
 use Rattle.station_queue.specs.declared.rule.View.{View}
 use Rattle.station_queue.specs.Entries.{station_of, entries_of}
 use Rattle.station_queue.specs.Order.{taker, sender, settled, nobody, place, places_of, HaveRoom, Fits, FitsSettled, IsInOrder, IsSameTaker, AreAllSent}
-
-same_test : (a b : ℕ) → a ≡ b → (a == b) ≡ true
-same_test a b e = grind (arith, nat_tests)
 
 other_test : (a b : ℕ) → a ≢ b → (a == b) ≡ false
 other_test a b n = grind (arith, nat_tests)
@@ -32,12 +31,14 @@ entries_of-append s (x ∷ xs) ys = entries_of-append-go x (station_of x == s) (
 -- one more entry of the station
 of_mine : (s : ℕ) (taken items : List Entry) (x : Entry) → station_of x ≡ s → entries_of s (taken ++ (items ++ x ∷ [])) ≡ entries_of s (taken ++ items) ++ x ∷ []
 of_mine s taken items x e =
-    ap (entries_of s) (sym (append_assoc taken items (x ∷ []))) ∙ entries_of-append s (taken ++ items) (x ∷ []) ∙ ap (λ b. entries_of s (taken ++ items) ++ cond b (x ∷ []) []) (same_test (station_of x) s e)
+    ap (entries_of s) (sym (append_assoc taken items (x ∷ []))) ∙ entries_of-append s (taken ++ items) (x ∷ []) ∙
+    ap (λ b. entries_of s (taken ++ items) ++ cond b (x ∷ []) []) (test_by_same (station_of x) s e)
 
 -- one more entry of another station
 of_other : (s : ℕ) (taken items : List Entry) (x : Entry) → station_of x ≢ s → entries_of s (taken ++ (items ++ x ∷ [])) ≡ entries_of s (taken ++ items)
 of_other s taken items x n =
-    ap (entries_of s) (sym (append_assoc taken items (x ∷ []))) ∙ entries_of-append s (taken ++ items) (x ∷ []) ∙ ap (λ b. entries_of s (taken ++ items) ++ cond b (x ∷ []) []) (other_test (station_of x) s n) ∙ append-nil (entries_of s (taken ++ items))
+    ap (entries_of s) (sym (append_assoc taken items (x ∷ []))) ∙ entries_of-append s (taken ++ items) (x ∷ []) ∙
+    ap (λ b. entries_of s (taken ++ items) ++ cond b (x ∷ []) []) (other_test (station_of x) s n) ∙ append-nil (entries_of s (taken ++ items))
 
 at_end : {A : Type 0} (l : List A) (a b : A) (j : ℕ) → get_elem? (l ++ a ∷ []) j ≡ some b → (get_elem? l j ≡ some b) ⊎ ((j ≡ length l) × (a ≡ b))
 at_end [] a b zero e = inr (refl, some-injective a b e)
@@ -82,7 +83,8 @@ begins = (
   0,
   [],
   (λ s _. refl),
-  each_set (Fits 0 (λ _. None) 0 [] []) (taker 0 [] [] 64 ∷ []) 0 (taker 0 [] [] 64) ((λ _. (refl, refl, refl)), All-nil (FitsSettled 0 (λ _. None) 0 [] []), (λ e. no e)) (λ j u other e. absurd (only j u other e)),
+  each_set (Fits 0 (λ _. None) 0 [] []) (taker 0 [] [] 64 ∷ []) 0 (taker 0 [] [] 64)
+      ((λ _. (refl, refl, refl)), All-nil (FitsSettled 0 (λ _. None) 0 [] []), (λ e. no e)) (λ j u other e. absurd (only j u other e)),
   omega arith,
 )
   where
@@ -123,7 +125,10 @@ puts n pass v x may is has items views _ h at =
 
 some_of : (taken items : List Entry) (x : Entry) → entries_of (station_of x) (taken ++ x ∷ items) ≡ [] → ⊥
 some_of taken items x none =
-    not_empty (entries_of (station_of x) taken) (entries_of (station_of x) items) x (sym (entries_of-append (station_of x) taken (x ∷ items) ∙ ap (λ b. entries_of (station_of x) taken ++ cond b (x ∷ entries_of (station_of x) items) (entries_of (station_of x) items)) (same_test (station_of x) (station_of x) refl)) ∙ none)
+    not_empty (entries_of (station_of x) taken) (entries_of (station_of x) items) x
+    (sym (entries_of-append (station_of x) taken (x ∷ items) ∙
+    ap (λ b. entries_of (station_of x) taken ++ cond b (x ∷ entries_of (station_of x) items) (entries_of (station_of x) items))
+    (test_by_same (station_of x) (station_of x) refl)) ∙ none)
   where
     not_empty : (xs ys : List Entry) (y : Entry) → xs ++ y ∷ ys ≡ [] → ⊥
     not_empty [] ys y e = cc
@@ -179,7 +184,7 @@ abbrev put_seat : ℕ → Option ℕ → (ℕ → Option ℕ) → ℕ → Option
 put_seat s o seat k = cond (k == s) o (seat k)
 
 seat_here : (s : ℕ) (o : Option ℕ) (seat : ℕ → Option ℕ) → put_seat s o seat s ≡ o
-seat_here s o seat = ap (λ b. cond b o (seat s)) (same_test s s refl)
+seat_here s o seat = ap (λ b. cond b o (seat s)) (test_by_same s s refl)
 
 seat_else : (s : ℕ) (o : Option ℕ) (seat : ℕ → Option ℕ) (k : ℕ) → k ≢ s → put_seat s o seat k ≡ seat k
 seat_else s o seat k n = ap (λ b. cond b o (seat k)) (other_test k s n)
@@ -217,7 +222,8 @@ forks pass v may items views h at =
       made + 1,
       taken,
       (λ s late. h.4 s (⊎_elim (λ (q : made + 1 < s). inl (let r : made < s = omega (arith, q) in r)) (λ (q : s ≡ 0). inr q) late)),
-      (λ j u e. ⊎_elim (λ (x : get_elem? vs j ≡ some u). old j u x) (λ (x : (j ≡ length vs) × (right ≡ u)). subst (λ (y : ℕ × View). F y.0 y.1) (λ i. (sym x.0 i, x.1 i)) here) (at_end vs right u j e)),
+      (λ j u e. ⊎_elim (λ (x : get_elem? vs j ≡ some u). old j u x)
+          (λ (x : (j ≡ length vs) × (right ≡ u)). subst (λ (y : ℕ × View). F y.0 y.1) (λ i. (sym x.0 i, x.1 i)) here) (at_end vs right u j e)),
       room,
     )
 
@@ -228,14 +234,18 @@ none_still s seat k e = go (k == s)
     go true = refl
     go false = e
 
-pub merges : (pass : ℕ) (v : View) (other : ℕ) (w : View) → v.takes ≡ true → w.sends ≡ true → Merges IsInOrder pass v other w (taker v.made v.taken (v.settled ++ settled w.station w.sent ∷ []) v.places) nobody
+pub merges : (pass : ℕ) (v : View) (other : ℕ) (w : View) → v.takes ≡ true → w.sends ≡ true →
+    Merges IsInOrder pass v other w (taker v.made v.taken (v.settled ++ settled w.station w.sent ∷ []) v.places) nobody
 merges pass v other w may came items views h at apart there =
     let reader = h.0 in let seat = h.1 in let made = h.2 in let taken = h.3 in
     let this = h.5 pass v at in
     let mine = this.0 may in
     let both = taker v.made v.taken (v.settled ++ settled w.station w.sent ∷ []) v.places in
-    let room : HaveRoom items (set (set views pass both) other nobody) = let one = places_set views pass v both at in let two = places_set (set views pass both) other w nobody there in let was = h.6 in omega (arith, one, two, was) in
-    let was : get_elem? views other ≡ some w = ⊎_elim (λ (x : (other ≡ pass) × (both ≡ w)). absurd (apart x.0)) (λ (x : (other ≢ pass) × (get_elem? views other ≡ some w)). x.1) (at_set views pass other both w there) in
+    let room : HaveRoom items (set (set views pass both) other nobody) = let one = places_set views pass v both at in let two =
+    places_set (set views pass both) other w nobody there in let was = h.6 in omega (arith, one, two, was) in
+    let was : get_elem? views other ≡ some w =
+    ⊎_elim (λ (x : (other ≡ pass) × (both ≡ w)). absurd (apart x.0)) (λ (x : (other ≢ pass) × (get_elem? views other ≡ some w)). x.1)
+    (at_set views pass other both w there) in
     let theirs = (h.5 other w was).2 came in
     let new = put_seat w.station None seat in
     let all = taken ++ items in
@@ -244,7 +254,12 @@ merges pass v other w may came items views h at apart there =
     λ u was. All-weaker (FitsSettled reader seat made taken all) (FitsSettled reader new made taken all) (λ k f. (none_still w.station seat k.station f.0, f.1, f.2)) u.settled was in
     let now : EachView Now (set views pass both) =
     each_set Now views pass both
-    (λ _. ((λ _. mine), All-push (FitsSettled reader new made taken all) v.settled (settled w.station w.sent) (settled_still v this.1) (seat_here w.station None seat, theirs.1, theirs.2), (λ e. no e)))
+    (λ _. (
+      (λ _. mine),
+      All-push (FitsSettled reader new made taken all) v.settled (settled w.station w.sent) (settled_still v this.1)
+          (seat_here w.station None seat, theirs.1, theirs.2),
+      (λ e. no e),
+    ))
     (λ j u _ e apart'.
     let f = h.5 j u e in (
       f.0,
@@ -276,7 +291,8 @@ gives pass v may has items views h at =
       made,
       taken,
       h.4,
-      (λ j u e. ⊎_elim (λ (x : get_elem? vs j ≡ some u). old j u x) (λ (x : (j ≡ length vs) × (place ≡ u)). subst (λ (y : ℕ × View). F y.0 y.1) (λ i. (sym x.0 i, x.1 i)) here) (at_end vs place u j e)),
+      (λ j u e. ⊎_elim (λ (x : get_elem? vs j ≡ some u). old j u x)
+          (λ (x : (j ≡ length vs) × (place ≡ u)). subst (λ (y : ℕ × View). F y.0 y.1) (λ i. (sym x.0 i, x.1 i)) here) (at_end vs place u j e)),
       room,
     )
 
@@ -288,7 +304,8 @@ gets_back pass v other w may items views h at apart there =
     let both = sender v.station v.sent (v.places + w.places) in
     let F : ℕ → View → Type 0 = Fits reader seat made taken (taken ++ items) in
     let old : EachView F (set views pass both) = each_set F views pass both ((λ e. no e), All-nil (FitsSettled reader seat made taken (taken ++ items)), (λ _. mine)) (λ j u _ e. h.5 j u e) in
-    let room : HaveRoom items (set (set views pass both) other nobody) = let one = places_set views pass v both at in let two = places_set (set views pass both) other w nobody there in let was = h.6 in omega (arith, one, two, was) in (
+    let room : HaveRoom items (set (set views pass both) other nobody) = let one = places_set views pass v both at in let two =
+    places_set (set views pass both) other w nobody there in let was = h.6 in omega (arith, one, two, was) in (
       reader,
       seat,
       made,

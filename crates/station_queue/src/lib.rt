@@ -14,6 +14,6 @@ mod sender;
 mod taker;
 
 pub use entry::{Entry, Request, SharedCommand};
-pub use queue::{PLACES, open_queue, settle_all, share_of};
+pub use queue::{PLACES, open_queue, share_of};
 pub use sender::Sender;
 pub use taker::Taker;

@@ -1,7 +1,5 @@
-ghost use Rattle.std.specs.Prelude.{◌≡◌, [], ◌++◌, ◌+◌, ◌<◌, ◌≤◌, ◌*◌, ℕ, List, All, length, map, slice_get, Some, IfOk};
-ghost use Rattle.station_queue.specs.declared.entry.Entry.{Entry};
-ghost use Rattle.station_queue.specs.Order.{AreAllSent, settled};
-ghost use Rattle.station_queue.specs.Ends.{sending, taking, with_settled};
+ghost use Rattle.std.specs.Prelude.{◌≡◌, [], ◌+◌, ◌<◌, ◌≤◌, ◌*◌, ℕ, All, length, slice_get, Some, IfOk};
+ghost use Rattle.station_queue.specs.Ends.{sending, taking};
 ghost use Rattle.station_queue.specs.Entries.{share_of};
 
 use crate::rule::Queue;
@@ -51,17 +49,4 @@ pub fn open_queue(alloc: Global, count: u16) -> Result<(Taker, Vec<Sender>), All
         };
     }
     Ok((taker, senders))
-}
-
-/// Takes all these senders of the queue back. Then what was taken of each station, followed by what the queue holds of it,
-/// is what the station sent.
-pub fn settle_all(taker: &mut Taker, senders: Vec<Sender>)
-    requires { All (λ s. s.queue ≡ taker.old.queue) senders.items }
-    ensures settled { taker.new ≡ with_settled taker.old (map (λ s. settled s.station s.sent) senders.items) }
-    ensures total { (items : List Entry) × AreAllSent taker.new.taken items taker.new.settled }
-{
-    for sender in senders {
-        taker.settle(sender);
-    }
-    taker.total();
 }

@@ -19,11 +19,11 @@ port_send I O i o = declared_send (port.the_type I O) (as_row_send (row_field I)
 events_send : IsSend events.the_row
 events_send = record { owned = λ d vs. ((λ vss. (tt, tt)), tt); leaving = λ k f vs. tt }
 
-passed_send : (I : RattleType) → IsSend I → IsSend (passed.the_row I)
-passed_send I i = declared_send (passed.the_type I) (events_send, (events_send, (search (sendable, view_send) depth 20, tt)))
+passed_send : (I O : RattleType) → IsSend I → IsSend O → IsSend (passed.the_row I O)
+passed_send I O i o = declared_send (passed.the_type I O) (events_send, (events_send, (search (sendable, view_send) depth 20, (search (sendable, view_send) depth 20, tt))))
 
 run_send : (I O : RattleType) → IsSend I → IsSend O → IsSend (run.the_row I O)
-run_send I O i o = declared_send (run.the_type I O) (as_row_send (row_field O) o, (search (sendable, view_send) depth 20, (passed_send I i, tt)))
+run_send I O i o = declared_send (run.the_type I O) (as_row_send (row_field O) o, (search (sendable, view_send) depth 20, (passed_send I O i o, tt)))
 
 pub done_send : (T I O : RattleType) (g : centre.Ghosts T.Denot) → IsSend T → IsSend I → IsSend O → IsSend (done.the_row T I O g)
 done_send T I O g s i o = declared_send (done.the_type T I O g) (ended_send T g s, (run_send I O i o, tt))

@@ -1,5 +1,6 @@
 pub mod OneRun
 pub mod Ordered
+pub mod OnlyRead
 pub mod Zipped
 pub mod Places
 pub mod Runs

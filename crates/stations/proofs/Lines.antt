@@ -107,7 +107,8 @@ module _ (J : Type 0) (base : State) where
       ])
     ]
 
-  one_line : (may_order : Bool) (n : ℕ) (s t : AtSession) (said : Line Global) (given : Answer Global) → AnswersReading (of_session J base may_order) n s said given t → Gives s t (λ P. IsRepliedTo P said given)
+  one_line : (may_order : Bool) (n : ℕ) (s t : AtSession) (said : Line Global) (given : Answer Global) →
+      AnswersReading (of_session J base may_order) n s said given t → Gives s t (λ P. IsRepliedTo P said given)
   one_line may_order n s t line.Silent given h = inl (ap (λ (u : AtSession). u.view.received) h.1, tt)
   one_line may_order n s t (line.Bad fault) given h = inl (ap (λ (u : AtSession). u.view.received) h.1, tt)
   one_line may_order n s t (line.Mark word) given h = inl (ap (λ (u : AtSession). u.view.received) h.1, tt)
@@ -216,7 +217,8 @@ module _ (J : Type 0) (base : State) where
       )
     ]
 
-    received_for : (n : ℕ) (s t : AtSession) (texts : List (List Byte)) (given : List (Answer Global)) → Dialogue (of_session J base speaker.orders) speaker n s texts given t → Received s t texts given
+    received_for : (n : ℕ) (s t : AtSession) (texts : List (List Byte)) (given : List (Answer Global)) →
+        Dialogue (of_session J base speaker.orders) speaker n s texts given t → Received s t texts given
     received_for n s t [] [] h = ([], ap (λ (u : AtSession). u.view.received) h ∙ sym (append-nil s.view.received), λ all. tt)
     received_for n s t [] (one ∷ given) h = absurd h
     received_for n s t (text ∷ texts) [] h = absurd h

@@ -43,7 +43,8 @@ module _ (J : Type 0) (base : State) where
   )
 
   -- what is told of a run in which this passed, by equal names for the station at the end and for the streams
-  pub told_of : {I : Type 0} (passed : Passed I) (station : Station) (may_order : Bool) (s t : SessionView) (r : Result Ran RunFault) (old new : Streams) {unread written now : Option (List Byte)} {other : Station} →
+  pub told_of : {I O : Type 0} (passed : Passed I O) (station : Station) (may_order : Bool) (s t : SessionView) (r : Result Ran RunFault)
+      (old new : Streams) {unread written now : Option (List Byte)} {other : Station} →
       other ≡ station → old.unread ≡ unread → old.held ≡ written → new.held ≡ now → old.read ≡ [] → old.passed ≡ [] → new.read ≡ read_by (reader_events passed) → new.passed ≡ writer_events passed →
       Tells Global (of_session J base may_order) (record { station = station; orders = may_order })
       (record { station = station; view = s }) (record { station = other; view = t }) old new r →
@@ -57,8 +58,18 @@ module _ (J : Type 0) (base : State) where
             (record { station = station; view = s }) (record { station = q.0; view = t }) q.1 q.2 r) (λ i. (same i, given i, events i)) told.6,
       )
 
+  -- the same of what passed by another writer, if these are the same events
+  pub told_within : {I V O : Type 0} (passed : Passed I V) (within : Passed I O) (speaker : Speaker) (unread written : Option (List Byte)) (s t : SessionView) →
+      (now : Option (List Byte)) (r : Result Ran RunFault) →
+      reader_events within ≡ reader_events passed → writer_events within ≡ writer_events passed →
+      IsToldOf J base speaker unread written passed s t now r → IsToldOf J base speaker unread written within s t now r
+  told_within passed within speaker unread written s t now r reads writes told =
+      subst (λ (q : List Event × List Event). GaveFirst unread (read_by q.0) × HasTaken written q.1 now
+      × IsTold Global (of_session J base speaker.orders) speaker (record { station = speaker.station; view = s }) (record { station = speaker.station; view = t }) (read_by q.0) q.1 r)
+      (λ i. (sym reads i, sym writes i)) told
+
   -- nothing was read and nothing passed when memory runs out
-  pub told_nothing : {I : Type 0} (passed : Passed I) (speaker : Speaker) (unread written : Option (List Byte)) (s : SessionView) → reader_events passed ≡ [] → writer_events passed ≡ [] →
+  pub told_nothing : {I O : Type 0} (passed : Passed I O) (speaker : Speaker) (unread written : Option (List Byte)) (s : SessionView) → reader_events passed ≡ [] → writer_events passed ≡ [] →
       IsToldOf J base speaker unread written passed s s written (Err NoMemory)
   told_nothing passed speaker unread written s unread_yet unpassed_yet =
       subst (λ (q : List Event × List Event). GaveFirst unread (read_by q.0) × HasTaken written q.1 written
@@ -82,13 +93,14 @@ module _ (J : Type 0) (base : State) where
       no_moment (e ∷ before) after parts = absurd cc
 
 -- why a run ended in which this passed from the beginning
-pub ended_of : {I : Type 0} (passed : Passed I) (turns : ℕ) (called called_now given given_now : List Event) (r : Result Ran RunFault) → called ≡ [] → given ≡ [] →
+pub ended_of : {I O : Type 0} (passed : Passed I O) (turns : ℕ) (called called_now given given_now : List Event) (r : Result Ran RunFault) → called ≡ [] → given ≡ [] →
     called_now ≡ reader_events passed → given_now ≡ writer_events passed → EndsSince turns called called_now given given_now r → EndsFor turns (reader_events passed) (writer_events passed) r
 ended_of passed turns called called_now given given_now r uncalled ungiven calls gives so =
     subst (λ (q : List Event × List Event). EndsFor turns q.0 q.1 r)
     (λ i. ((sym (so.2 ∙ ap (λ l. l ++ so.0) uncalled) ∙ calls) i, (sym (so.3 ∙ ap (λ l. l ++ so.1) ungiven) ∙ gives) i)) so.4
 
 -- out of memory before the first call
-pub ended_nothing : {I : Type 0} (passed : Passed I) (turns : ℕ) → reader_events passed ≡ [] → writer_events passed ≡ [] → EndsFor turns (reader_events passed) (writer_events passed) (Err NoMemory)
+pub ended_nothing : {I O : Type 0} (passed : Passed I O) (turns : ℕ) → reader_events passed ≡ [] → writer_events passed ≡ [] →
+    EndsFor turns (reader_events passed) (writer_events passed) (Err NoMemory)
 ended_nothing passed turns uncalled unpassed =
     subst (λ (q : List Event × List Event). EndsFor turns q.0 q.1 (Err NoMemory)) (λ i. (sym uncalled i, sym unpassed i)) (ends_without turns)

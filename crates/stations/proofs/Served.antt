@@ -5,6 +5,8 @@ use Rattle.std.specs.declared.alloc.Global.{Global}
 use Rattle.std.specs.List.{AllByRecursion, AllZip}
 use Rattle.std.proofs.lemmas.List.{append-nil}
 use mathlib.Core.List.{IsPrefix, Sublist}
+use Rattle.base.proofs.Options.{some_is}
+use Rattle.base.proofs.Lists.{some_beside, zip_length}
 use Rattle.identity.specs.Numbers.{Byte}
 use Rattle.registration.specs.Numbers.{Station}
 use Rattle.console.specs.Reading.{Speaker}
@@ -53,7 +55,7 @@ use Rattle.stations.specs.Served.{HasServed, IsBorneOut, new_view, speaker_at}
 use Rattle.stations.proofs.Lines.{lines_borne}
 use Rattle.stations.proofs.Ordered.{sublist_without}
 use Rattle.stations.proofs.Written.{written_after}
-use Rattle.stations.proofs.Places.{beside, map_length, mapped, of_all_at, one_only, zip_length, zip_mapped}
+use Rattle.stations.proofs.Places.{map_length, mapped, of_all_at, one_only, zip_mapped}
 
 -- its end is none of the commands that a session sent
 commands_before_end : (sent : List Entry) (station : Station) → commands_among (sent ++ entry.Ended station ∷ []) ≡ commands_among sent
@@ -70,10 +72,6 @@ stored_first {D} disk base opened n f whole new honest kept = record {
   where
     no : true ≡ false → ⊥
     no e = cc
-
--- a new flusher has the store that it was opened with
-pub new_of_its_own : {D : Type 0} (n : ℕ) (opened : StoreView Global D) (f : FlusherView D) → IsNewFlusher n opened f → IsNewFlusher n f.store f
-new_of_its_own n opened f new = record { queue = new.queue; count = new.count; published = new.published; durable = new.durable; store = refl; ended = new.ended }
 
 module _ {J I O : Type 0} (base : State) (unread : I → Option (List Byte)) (written : O → Option (List Byte)) where
   abbrev pub IsOf : Job J I O → Done J I O → Type 0
@@ -98,10 +96,7 @@ module _ {J I O : Type 0} (base : State) (unread : I → Option (List Byte)) (wr
   ends_at [] (y ∷ ys) all k j v d e f h = absurd all
   ends_at (x ∷ xs) [] all k j v d e f h = absurd all
   ends_at (x ∷ xs) (y ∷ ys) all zero j v d e f h =
-      subst (λ (q : Job J I O × SessionView × Done J I O). EndsAs J base unread written q.0 q.1 q.2) (λ i. (one x j e i, one all.0.0 v f i, one y d h i)) all.0.1
-    where
-      one : {Z : Type 0} (p q : Z) → Some p ≡ Some q → p ≡ q
-      one p q e = cc
+      subst (λ (q : Job J I O × SessionView × Done J I O). EndsAs J base unread written q.0 q.1 q.2) (λ i. (some_is x j e i, some_is all.0.0 v f i, some_is y d h i)) all.0.1
   ends_at (x ∷ xs) (y ∷ ys) all (suc k) j v d e f h = ends_at xs ys all.1 k j v d e f h
 
   -- each session is still the one of its station
@@ -125,7 +120,7 @@ module _ {J I O : Type 0} (base : State) (unread : I → Option (List Byte)) (wr
     new_at : (k : ℕ) (j : Job J I O) → slice_get jobs k ≡ Some j → (j.session.sender.station ≡ k + 1) × (session_view j.session ≡ new_view)
     new_at k j at =
         let here = subst (λ (l : List (Session J)). slice_get l k ≡ Some j.session) with_sessions (mapped (λ (x : Job J I O). x.session) jobs k j at) in
-        let a = beside first.senders sessions k j.session new.count here in
+        let a = some_beside first.senders sessions k j.session new.count here in
         let n = new.each k a.0 j.session a.1 here in (
           ap (λ (s : Sending). s.station) n.sender,
           (λ i. record { sent = (ap (λ (s : Sending). s.sent) n.sender) i; received = n.channel.2 i; seen = n.viewer i; reached = length (n.viewer i) }),
@@ -153,8 +148,8 @@ module _ {J I O : Type 0} (base : State) (unread : I → Option (List Byte)) (wr
     ends_there : (k : ℕ) (port : Port I O) (run : StationRun I O) (view : SessionView) → slice_get ports k ≡ Some port → slice_get (map given_of done) k ≡ Some run →
         slice_get (views_of jobs done all) k ≡ Some view → EndsAt k port run view
     ends_there k port run view at_port at_run at_view =
-        let j = beside jobs (views_of jobs done all) k view (views_length jobs done all) at_view in
-        let d = beside done jobs k j.0 (sym (zip_length IsOf jobs done all)) j.1 in
+        let j = some_beside jobs (views_of jobs done all) k view (views_length jobs done all) at_view in
+        let d = some_beside done jobs k j.0 (sym (zip_length IsOf jobs done all)) j.1 in
         let n = new_at k j.0 j.1 in
         let same_port = one_only ports k j.0.port port (subst (λ (l : List (Port I O)). slice_get l k ≡ Some j.0.port) with_ports (mapped (λ (x : Job J I O). x.port) jobs k j.0 j.1)) at_port in
         let same_run = one_only (map given_of done) k (given_of d.0) run (mapped given_of done k d.0 d.1) at_run in
@@ -173,9 +168,9 @@ module _ {J I O : Type 0} (base : State) (unread : I → Option (List Byte)) (wr
     -- why each run ended
     each_ends : (k : ℕ) (run : StationRun I O) → slice_get (map given_of done) k ≡ Some run → EndsFor turns (reader_events run.passed) (writer_events run.passed) run.ran
     each_ends k run at_run =
-        let d = beside done (map given_of done) k run (map_length given_of done) at_run in
-        let j = beside jobs done k d.0 (zip_length IsOf jobs done all) d.1 in
-        let v = beside (views_of jobs done all) jobs k j.0 (sym (views_length jobs done all)) j.1 in
+        let d = some_beside done (map given_of done) k run (map_length given_of done) at_run in
+        let j = some_beside jobs done k d.0 (zip_length IsOf jobs done all) d.1 in
+        let v = some_beside (views_of jobs done all) jobs k j.0 (sym (views_length jobs done all)) j.1 in
         let e = ends_at jobs done all k j.0 v.0 d.0 j.1 v.1 d.1 in
         let same_turns = of_all_at (λ (x : Job J I O). x.turns ≡ turns) jobs k j.0 turned j.1 in
         let same_run = one_only (map given_of done) k (given_of d.0) run (mapped given_of done k d.0 d.1) at_run in
@@ -185,12 +180,12 @@ module _ {J I O : Type 0} (base : State) (unread : I → Option (List Byte)) (wr
     pub each_borne : IsClosed base last (map (λ (d : Done J I O). d.ended) done) → AreSessionsOf last (map (λ (d : Done J I O). d.ended) done) →
         (k : ℕ) (view : SessionView) → slice_get (views_of jobs done all) k ≡ Some view → IsBorneOut J base last.durable (speaker_at orders k) view
     each_borne closed are k view at_view =
-        let j = beside jobs (views_of jobs done all) k view (views_length jobs done all) at_view in
-        let d = beside done jobs k j.0 (sym (zip_length IsOf jobs done all)) j.1 in
+        let j = some_beside jobs (views_of jobs done all) k view (views_length jobs done all) at_view in
+        let d = some_beside done jobs k j.0 (sym (zip_length IsOf jobs done all)) j.1 in
         let e = ends_at jobs done all k j.0 view d.0 j.1 at_view d.1 in
         let n = new_at k j.0 j.1 in
         let there = mapped (λ (x : Done J I O). x.ended) done k d.0 d.1 in
-        let a = beside last.senders (map (λ (x : Done J I O). x.ended) done) k d.0.ended are.count there in
+        let a = some_beside last.senders (map (λ (x : Done J I O). x.ended) done) k d.0.ended are.count there in
         let c = closed.each k a.0 d.0.ended a.1 there in
         let station = ap (λ (s : Sending). s.station) e.sender ∙ n.0 in
         let answers = subst (λ (l : List Sent). AreBorneOut base last.durable 0 l) e.received c.borne_out in
@@ -203,10 +198,11 @@ module _ {J I O : Type 0} (base : State) (unread : I → Option (List Byte)) (wr
         }
 
     -- a run that was out of memory did nothing
-    each_memory : (k : ℕ) (run : StationRun I O) (view : SessionView) → slice_get (map given_of done) k ≡ Some run → slice_get (views_of jobs done all) k ≡ Some view → IsErrOf run.ran fault.NoMemory → view ≡ new_view
+    each_memory : (k : ℕ) (run : StationRun I O) (view : SessionView) → slice_get (map given_of done) k ≡ Some run →
+        slice_get (views_of jobs done all) k ≡ Some view → IsErrOf run.ran fault.NoMemory → view ≡ new_view
     each_memory k run view at_run at_view out =
-        let j = beside jobs (views_of jobs done all) k view (views_length jobs done all) at_view in
-        let d = beside done jobs k j.0 (sym (zip_length IsOf jobs done all)) j.1 in
+        let j = some_beside jobs (views_of jobs done all) k view (views_length jobs done all) at_view in
+        let d = some_beside done jobs k j.0 (sym (zip_length IsOf jobs done all)) j.1 in
         let e = ends_at jobs done all k j.0 view d.0 j.1 at_view d.1 in
         let same_run = one_only (map given_of done) k (given_of d.0) run (mapped given_of done k d.0 d.1) at_run in
         e.memory (subst (λ (r : StationRun I O). IsErrOf r.ran fault.NoMemory) (sym same_run) out) ∙ (new_at k j.0 j.1).1
@@ -215,27 +211,28 @@ module _ {J I O : Type 0} (base : State) (unread : I → Option (List Byte)) (wr
     each_taken : IsClosed base last (map (λ (d : Done J I O). d.ended) done) → AreSessionsOf last (map (λ (d : Done J I O). d.ended) done) →
         (k : ℕ) (view : SessionView) → slice_get (views_of jobs done all) k ≡ Some view → entries_of (k + 1) last.taker.taken ≡ view.sent ++ entry.Ended (k + 1) ∷ []
     each_taken closed are k view at_view =
-        let j = beside jobs (views_of jobs done all) k view (views_length jobs done all) at_view in
-        let d = beside done jobs k j.0 (sym (zip_length IsOf jobs done all)) j.1 in
+        let j = some_beside jobs (views_of jobs done all) k view (views_length jobs done all) at_view in
+        let d = some_beside done jobs k j.0 (sym (zip_length IsOf jobs done all)) j.1 in
         let e = ends_at jobs done all k j.0 view d.0 j.1 at_view d.1 in
         let station = (new_at k j.0 j.1).0 in
         let there = mapped (λ (x : Done J I O). x.ended) done k d.0 d.1 in
-        let a = beside last.senders (map (λ (x : Done J I O). x.ended) done) k d.0.ended are.count there in
+        let a = some_beside last.senders (map (λ (x : Done J I O). x.ended) done) k d.0.ended are.count there in
         ap (λ s. entries_of s last.taker.taken) (sym (ap (λ (s : Sending). s.station) e.sender ∙ station)) ∙ (closed.each k a.0 d.0.ended a.1 there).taken
         ∙ ap (λ (s : Sending). s.sent) e.sender ∙ ap (λ s. view.sent ++ entry.Ended s ∷ []) station
 
     -- a session received the first of the answers to its station
-    each_received : (answers : List Sent) → HaveAnswered first.senders answers last.senders → IsClosed base last (map (λ (d : Done J I O). d.ended) done) → AreSessionsOf last (map (λ (d : Done J I O). d.ended) done) →
+    each_received : (answers : List Sent) → HaveAnswered first.senders answers last.senders →
+        IsClosed base last (map (λ (d : Done J I O). d.ended) done) → AreSessionsOf last (map (λ (d : Done J I O). d.ended) done) →
         (k : ℕ) (view : SessionView) → slice_get (views_of jobs done all) k ≡ Some view → IsPrefix view.received (answers_to (k + 1) answers)
     each_received answers answered closed are k view at_view =
-        let j = beside jobs (views_of jobs done all) k view (views_length jobs done all) at_view in
-        let d = beside done jobs k j.0 (sym (zip_length IsOf jobs done all)) j.1 in
+        let j = some_beside jobs (views_of jobs done all) k view (views_length jobs done all) at_view in
+        let d = some_beside done jobs k j.0 (sym (zip_length IsOf jobs done all)) j.1 in
         let e = ends_at jobs done all k j.0 view d.0 j.1 at_view d.1 in
         let there = mapped (λ (x : Done J I O). x.ended) done k d.0 d.1 in
-        let a = beside last.senders (map (λ (x : Done J I O). x.ended) done) k d.0.ended are.count there in
-        let was = beside first.senders last.senders k a.0 answered.count a.1 in
+        let a = some_beside last.senders (map (λ (x : Done J I O). x.ended) done) k d.0.ended are.count there in
+        let was = some_beside first.senders last.senders k a.0 answered.count a.1 in
         let mine = answers_to (k + 1) answers in
-        let s = beside sessions first.senders k was.0 (sym new.count) was.1 in
+        let s = some_beside sessions first.senders k was.0 (sym new.count) was.1 in
         let none : sent_of was.0.pass ≡ [] = (new.each k was.0 s.0 was.1 s.1).channel.1 in
         let sent = sent_first (sent_of was.0.pass) (sent_of a.0.pass) mine was.0.gone a.0.gone (answered.each k was.0 a.0 was.1 a.1).1 in
         subst (λ l. IsPrefix l mine) e.received
@@ -244,18 +241,19 @@ module _ {J I O : Type 0} (base : State) (unread : I → Option (List Byte)) (wr
     -- a new flusher has sent nothing
     none_durable : (disk : D → View) → AreDurable disk base last first.senders
     none_durable disk k a at =
-        let s = beside sessions first.senders k a (sym new.count) at in
+        let s = some_beside sessions first.senders k a (sym new.count) at in
         subst (λ (l : List Sent). AllByRecursion (WasDurable disk base last) l) (sym (new.each k a s.0 at s.1).channel.1) tt
 
     -- each answer that a session received is one that was sent to it
-    each_durable : (disk : D → View) → AreDurable disk base last last.senders → IsClosed base last (map (λ (d : Done J I O). d.ended) done) → AreSessionsOf last (map (λ (d : Done J I O). d.ended) done) →
+    each_durable : (disk : D → View) → AreDurable disk base last last.senders → IsClosed base last (map (λ (d : Done J I O). d.ended) done) →
+        AreSessionsOf last (map (λ (d : Done J I O). d.ended) done) →
         (k : ℕ) (view : SessionView) → slice_get (views_of jobs done all) k ≡ Some view → AllByRecursion (WasDurable disk base last) view.received
     each_durable disk sent closed are k view at_view =
-        let j = beside jobs (views_of jobs done all) k view (views_length jobs done all) at_view in
-        let d = beside done jobs k j.0 (sym (zip_length IsOf jobs done all)) j.1 in
+        let j = some_beside jobs (views_of jobs done all) k view (views_length jobs done all) at_view in
+        let d = some_beside done jobs k j.0 (sym (zip_length IsOf jobs done all)) j.1 in
         let e = ends_at jobs done all k j.0 view d.0 j.1 at_view d.1 in
         let there = mapped (λ (x : Done J I O). x.ended) done k d.0 d.1 in
-        let a = beside last.senders (map (λ (x : Done J I O). x.ended) done) k d.0.ended are.count there in
+        let a = some_beside last.senders (map (λ (x : Done J I O). x.ended) done) k d.0.ended are.count there in
         let c = closed.each k a.0 d.0.ended a.1 there in
         subst (λ (l : List Sent). AllByRecursion (WasDurable disk base last) l) e.received
         (all_prefix (WasDurable disk base last) (received_of d.0.ended.receiver.pass) (sent_of a.0.pass) c.received (sent k a.0 a.1))
@@ -263,22 +261,25 @@ module _ {J I O : Type 0} (base : State) (unread : I → Option (List Byte)) (wr
     -- if its station may give no orders, no session submitted one
     each_orderless : (k : ℕ) (view : SessionView) → slice_get (views_of jobs done all) k ≡ Some view → may orders (k + 1) ≡ false → has_order (commands_among view.sent) ≡ false
     each_orderless k view at_view never =
-        let j = beside jobs (views_of jobs done all) k view (views_length jobs done all) at_view in
-        let d = beside done jobs k j.0 (sym (zip_length IsOf jobs done all)) j.1 in
+        let j = some_beside jobs (views_of jobs done all) k view (views_length jobs done all) at_view in
+        let d = some_beside done jobs k j.0 (sym (zip_length IsOf jobs done all)) j.1 in
         let e = ends_at jobs done all k j.0 view d.0 j.1 at_view d.1 in
         let none = ap (λ (v : SessionView). v.sent) (new_at k j.0 j.1).1 in
         let may_not = ap (λ (speaker : Speaker). speaker.orders) (speaker_is k j.0 j.1) ∙ never in
         ap (λ l. has_order (commands_among l)) (e.submits.1 ∙ ap (λ l. l ++ e.submits.0) none) ∙ e.submits.2 may_not
 
     -- all of it
-    pub has_served : (disk : D → View) (opened store : StoreView Global D) (n : ℕ) → opened.broken ≡ false → (opened.broken ≡ false → HasBeenHonest disk opened → IsStoredIn Global disk opened) → n ≡ length ports → IsNewFlusher n opened first → HasFlushed disk base first last → store ≡ last.store →
+    pub has_served : (disk : D → View) (opened store : StoreView Global D) (n : ℕ) → opened.broken ≡ false →
+        (opened.broken ≡ false → HasBeenHonest disk opened → IsStoredIn Global disk opened) → n ≡ length ports → IsNewFlusher n opened first →
+        HasFlushed disk base first last → store ≡ last.store →
         (ended : List (Ended J)) (runs : List (StationRun I O)) → ended ≡ map (λ (d : Done J I O). d.ended) done → runs ≡ map given_of done →
         IsClosed base last ended → HasServed disk J base orders turns unread written opened ports store runs
     has_served disk opened store n whole is_kept count begun flushed store_is ended runs is_ended is_runs closed =
         let jobs_length : length jobs ≡ length ports = sym (map_length (λ (x : Job J I O). x.port) jobs) ∙ ap length with_ports in
         let sound_first : first.store.broken ≡ false = ap (λ (s : StoreView Global D). s.broken) begun.store ∙ whole in
         let runs_length : length runs ≡ length ports = ap length is_runs ∙ map_length given_of done ∙ zip_length IsOf jobs done all ∙ jobs_length in
-        let there : (k : ℕ) (port : Port I O) (run : StationRun I O) (view : SessionView) → slice_get ports k ≡ Some port → slice_get runs k ≡ Some run → slice_get (views_of jobs done all) k ≡ Some view → EndsAt k port run view =
+        let there : (k : ℕ) (port : Port I O) (run : StationRun I O) (view : SessionView) → slice_get ports k ≡ Some port →
+        slice_get runs k ≡ Some run → slice_get (views_of jobs done all) k ≡ Some view → EndsAt k port run view =
         λ k port run view at_port at_run at_view. ends_there k port run view at_port (subst (λ (l : List (StationRun I O)). slice_get l k ≡ Some run) is_runs at_run) at_view in
         let durable : (disk opened.disk).honest → IsStoredIn Global disk opened → (k : ℕ) (view : SessionView) → slice_get (views_of jobs done all) k ≡ Some view →
         AllByRecursion (WasDurable disk base last) view.received =
@@ -293,6 +294,7 @@ module _ {J I O : Type 0} (base : State) (unread : I → Option (List Byte)) (wr
           begun = begins;
           rounds = flushed.rounds;
           ended = flushed.ended;
+          at_once = flushed.at_once;
           core = core;
           settled = flushed.settled;
           store_is = store_is;
@@ -311,7 +313,9 @@ module _ {J I O : Type 0} (base : State) (unread : I → Option (List Byte)) (wr
           taken = each_taken (subst (λ l. IsClosed base last l) is_ended closed) (sessions_ended flushed.same);
           received = each_received core.answers core.answered (subst (λ l. IsClosed base last l) is_ended closed) (sessions_ended flushed.same);
           told = λ k port run view at_port at_run at_view. each_told k port run view (there k port run view at_port at_run at_view);
-          synced = λ honest kept k port run view at_port at_run at_view. written_after disk J base last (speaker_at orders k) view run.passed (unread port.reader) (written port.writer) (written run.writer) run.ran
+          synced = λ honest kept k port run view at_port at_run at_view.
+              written_after disk J base last (speaker_at orders k) view run.passed (unread port.reader) (written port.writer) (written run.writer)
+              run.ran
               (each_told k port run view (there k port run view at_port at_run at_view)) (durable honest kept k view at_view);
           closed = borne;
           orderless = λ k view at_view never.

@@ -4,6 +4,7 @@ use Rattle.std.specs.Prelude.{All, IfOk, map}
 use Rattle.std.specs.List.{AllByRecursion}
 use Rattle.std.proofs.lemmas.List.Elements.{recursion_from_All}
 use Rattle.std.specs.declared.alloc.Global.{Global}
+use Rattle.base.proofs.Lists.{all_after}
 use Rattle.registration.specs.Numbers.{Station}
 use Rattle.centre_core.specs.Asked.{Asked}
 use Rattle.centre_core.specs.State.{State}
@@ -18,13 +19,9 @@ use Rattle.stations.specs.Orders.{is_allowed}
 abbrev G : Type 0
 G = Asked Global
 
-last_of_all : {X : Type 0} (P : X → Type 0) (xs ys : List X) → AllByRecursion P (xs ++ ys) → AllByRecursion P ys
-last_of_all P [] ys all = all
-last_of_all P (x ∷ xs) ys all = last_of_all P xs ys all.1
-
 -- what holds of all holds of the next one
 pub next_of_all : {X : Type 0} (P : X → Type 0) (xs ys all zs : List X) (x : X) → xs ++ ys ≡ all → ys ≡ x ∷ zs → All P all → P x
-next_of_all {X} P xs ys all zs x split is holds = (subst (AllByRecursion P) is (last_of_all P xs ys (recursion_from_All P (xs ++ ys) (subst (λ (l : List X). All P l) (sym split) holds)))).0
+next_of_all {X} P xs ys all zs x split is holds = (subst (AllByRecursion P) is (all_after P xs ys (recursion_from_All P (xs ++ ys) (subst (λ (l : List X). All P l) (sym split) holds)))).0
 
 module _ {J : Type 0} where
   -- the reply in a short answer is short

@@ -1,5 +1,5 @@
 -- What was on the disk before it was written.
-use Rattle.std.proofs.Common.{◌≡◌, List, [], ◌∷◌, ◌++◌, refl, sym, ◌∙◌, arith, Option, Result, Ok, Err}
+use Rattle.std.proofs.Common.{List, [], ◌∷◌, ◌++◌, refl, sym, ◌∙◌, arith, Option, Result, Ok, Err}
 use Rattle.std.specs.Prelude.{Contains}
 use Rattle.std.specs.List.{AllByRecursion}
 use Rattle.std.specs.Str.Lines.{lines}
@@ -32,7 +32,8 @@ within : (P : Sent → Type 0) (all xs : List Sent) → ((x : Sent) → Contains
 within P all [] of h = tt
 within P all (y ∷ xs) of h = ((of y (0, omega arith, refl), h.0), within P all xs (λ x c. of x (Contains-append_right (y ∷ []) xs x c)) h.1)
 
-module _ {D I : Type 0} (disk : D → View) (J : Type 0) (base : State) (last : FlusherView D) (speaker : Speaker) (view : SessionView) (passed : Passed I) (unread before after : Option (List Byte)) where
+module _ {D I O : Type 0} (disk : D → View) (J : Type 0) (base : State) (last : FlusherView D) (speaker : Speaker) (view : SessionView)
+    (passed : Passed I O) (unread before after : Option (List Byte)) where
   -- the session of this station
   abbrev At : SessionView → AtSession
   At v = record { station = speaker.station; view = v }
@@ -64,7 +65,8 @@ module _ {D I : Type 0} (disk : D → View) (J : Type 0) (base : State) (last : 
     }
 
     -- some are
-    of_some : TellsSome Global (of_session J base speaker.orders) speaker (At new_view) (At view) (read_by (reader_events passed)) (writer_events passed) → IsWrittenAfter disk J base last speaker view passed unread before after
+    of_some : TellsSome Global (of_session J base speaker.orders) speaker (At new_view) (At view) (read_by (reader_events passed))
+        (writer_events passed) → IsWrittenAfter disk J base last speaker view passed unread before after
     of_some told = record {
       gave = gave;
       done = told.0.done;

@@ -1,33 +1,19 @@
 -- Two lists of which the items of one place belong together, made by a loop over the first.
-use Rattle.std.proofs.Common.{◌≡◌, ◌+◌, ◌<◌, List, [], ◌∷◌, ◌++◌, length, refl, sym, ap, ◌∙◌, subst, arith, length-append}
+use Rattle.std.proofs.Common.{◌≡◌, List, [], ◌∷◌, ◌++◌, length, sym, ◌∙◌, subst, arith}
 use Rattle.std.specs.Prelude.{Result, Ok, Err, MatchResult}
 use Rattle.std.specs.List.{AllZip}
 use Rattle.std.proofs.lemmas.List.{append-nil}
-
--- the item that comes next is one of all
-pub fewer : {A : Type 0} (done : List A) (x : A) (rest all : List A) → done ++ x ∷ rest ≡ all → length done < length all
-fewer done x rest all e = omega (arith, ap length e, length-append done (x ∷ rest))
+use Rattle.base.proofs.Lists.{zip_push}
 
 -- where nothing comes next, all is done
 pub whole : {A : Type 0} (done rest all : List A) → done ++ rest ≡ all → length rest ≡ 0 → done ≡ all
 whole done [] all e none = sym (append-nil done) ∙ e
 whole done (x ∷ rest) all e none = absurd (omega (arith, none))
 
--- a list without items
-pub nothing : {A : Type 0} (xs : List A) → length xs ≡ 0 → xs ≡ []
-nothing [] none = refl
-nothing (x ∷ xs) none = absurd (omega (arith, none))
-
 module _ {A B : Type 0} where
-  pushed : (R : A → B → Type 0) (xs : List A) (ys : List B) (x : A) (y : B) → AllZip R xs ys → R x y → AllZip R (xs ++ x ∷ []) (ys ++ y ∷ [])
-  pushed R [] [] x y all this = (this, tt)
-  pushed R [] (b ∷ ys) x y all this = absurd all
-  pushed R (a ∷ xs) [] x y all this = absurd all
-  pushed R (a ∷ xs) (b ∷ ys) x y all this = (all.0, pushed R xs ys x y all.1 this)
-
   -- one more of each
   pub one_more : (xs : List A) (ys new : List B) (x : A) (y : B) (R : A → B → Type 0) → new ≡ ys ++ y ∷ [] → AllZip R xs ys → R x y → AllZip R (xs ++ x ∷ []) new
-  one_more xs ys new x y R e all this = subst (λ l. AllZip R (xs ++ x ∷ []) l) (sym e) (pushed R xs ys x y all this)
+  one_more xs ys new x y R e all this = subst (λ l. AllZip R (xs ++ x ∷ []) l) (sym e) (zip_push R xs ys x y all this)
 
   -- at the end of the loop
   pub of_all : (done rest all : List A) (ys : List B) (R : A → B → Type 0) → done ++ rest ≡ all → length rest ≡ 0 → AllZip R done ys → AllZip R all ys

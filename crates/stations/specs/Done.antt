@@ -1,5 +1,6 @@
 -- What comes of the run of one station.
 use Rattle.std.specs.Prelude.{◌≡◌, IsErrOf, List, [], ◌∷◌, ◌++◌, Option, Result}
+use Rattle.std.specs.List.{AllZip}
 use Rattle.std.specs.declared.alloc.Global.{Global}
 use Rattle.identity.specs.Numbers.{Byte}
 use Rattle.crossbeam_channel.specs.Ends.{receives_on}
@@ -39,7 +40,7 @@ module _ (J : Type 0) (base : State) where
   -- What was told in that run, whatever the reader and the writer are. Given is what passed in it: the bytes that were read are those that the
   -- calls of its reader gave, and what was written after it was answered is what passed by its writer. If the bytes of the reader or of the
   -- writer are known, these are the first of them, or follow them.
-  abbrev pub IsToldOf : {I : Type 0} → Speaker → Option (List Byte) → Option (List Byte) → Passed I → SessionView → SessionView → Option (List Byte) → Result Ran RunFault → Type 0
+  abbrev pub IsToldOf : {I O : Type 0} → Speaker → Option (List Byte) → Option (List Byte) → Passed I O → SessionView → SessionView → Option (List Byte) → Result Ran RunFault → Type 0
   IsToldOf speaker unread written passed s t after ran =
       GaveFirst unread (read_by (reader_events passed)) × HasTaken written (writer_events passed) after
       × IsTold Global (of_session J base speaker.orders) speaker
@@ -61,6 +62,10 @@ module _ (J : Type 0) (base : State) where
       -- if the run was out of memory, it did nothing
       pub memory : IsErrOf done.run.ran NoMemory → last ≡ view_of job.session
 
-    -- the same for some session after the run
+    -- this came of the job, whatever the session was after its run
     abbrev pub IsDone : Job J I O → Done J I O → Type 0
     IsDone job done = (last : SessionView) × EndsAs job last done
+
+    -- this came of each of these jobs, in order
+    abbrev pub AreDone : List (Job J I O) → List (Done J I O) → Type 0
+    AreDone jobs done = AllZip IsDone jobs done

@@ -4,19 +4,21 @@ use Rattle.sector_disk.specs.Disk.{HasFailed, View}
 use Rattle.sector_disk.specs.Run.{LeavesOnly}
 use Rattle.centre_core.specs.State.{State}
 use Rattle.flusher.specs.Lasting.{AreLasting}
-use Rattle.flusher.specs.Runs.{AreRounds, HasSameEnds, HasTakenEnds}
+use Rattle.flusher.specs.Runs.{AreRounds, HasSameEnds, HasStopped, HasTakenEnds}
 use Rattle.flusher.specs.Served.{IsSettled}
 use Rattle.flusher.specs.Stored.{IsStoredFor, OpensBetween}
 use Rattle.flusher.specs.View.{FlusherView}
 
--- It did rounds until it had taken the end of each session. It still has its queue and its channels.
+-- It did rounds until it had taken the end of each session, and none after. It still has its queue and its channels.
 pub record HasFlushed {D : Type 0} (disk : D → View) (base : State) (first last : FlusherView D) : Type 0 where
   pub rounds : AreRounds disk base first last
   pub ended : HasTakenEnds last
+  pub at_once : HasStopped disk base first last
   pub same : HasSameEnds first last
   -- what is durable then is a history, and the register of a sound store is what it makes of the base
   pub settled : IsSettled base last
-  -- each image of the disk opens to what is durable. After a stop at any moment it opens to what was durable at some moment.
+  -- each image of the disk opens to what is durable. After a stop at any moment it opens to
+  -- no less than was durable at first, and to no more than is durable at last.
   pub stored : IsStoredFor disk base first → IsStoredFor disk base last
   pub any_moment : IsStoredFor disk base first → first.store.broken ≡ false
       → LeavesOnly (disk first.store.disk) (disk last.store.disk) (OpensBetween base first last)

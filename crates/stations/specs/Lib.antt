@@ -6,4 +6,8 @@ pub mod Done
 pub mod Flushed
 pub mod Lines
 pub mod Served
+pub mod Many
+pub mod Lives
+pub mod Inside
 pub mod Listings
+pub mod Figures

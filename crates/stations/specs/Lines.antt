@@ -17,7 +17,7 @@ abbrev pub IsReplied : (Reply Global → Type 0) → Answer Global → Type 0
 IsReplied P (answer.Replied sequence reply) = P reply
 IsReplied P other = Unit {0}
 
--- the same of the command in a line and the reply in its answer; only an answer to a command needs something
+-- P holds of the command in a line and the reply in its answer; only an answer to a command needs something
 abbrev pub IsRepliedTo : (Asked Global → Reply Global → Type 0) → Line Global → Answer Global → Type 0
 IsRepliedTo P line.Silent given = Unit {0}
 IsRepliedTo P (line.Bad fault) given = Unit {0}
@@ -29,7 +29,7 @@ IsRepliedTo P (line.OwnStation station) given = Unit {0}
 IsRepliedTo P line.Service given = Unit {0}
 IsRepliedTo P (line.Forbidden sequence) given = Unit {0}
 
--- the same of each of these lines and its answer
+-- P holds of the command in each of these lines and the reply in its answer
 abbrev pub AreRepliedTo : (Asked Global → Reply Global → Type 0) → Speaker → List (List Byte) → List (Answer Global) → Type 0
 AreRepliedTo P speaker [] answers = Unit {0}
 AreRepliedTo P speaker (text ∷ texts) [] = Unit {0}

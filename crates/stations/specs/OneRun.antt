@@ -1,12 +1,16 @@
 -- The run of one station.
-use Rattle.std.specs.Prelude.{Bool, List, Option, Result}
+use Rattle.std.specs.Prelude.{◌≡◌, ◌⊎◌, ◌≤◌, ◌<◌, ◌+◌, ℕ, Bool, IsErrOf, List, Option, Result}
 use Rattle.std.specs.declared.alloc.Global.{Global}
 use Rattle.identity.specs.Numbers.{Byte}
 use Rattle.centre_core.specs.State.{State}
+use Rattle.console.specs.Failures.{failures_reported}
+use Rattle.console.specs.Runs.{IsRun}
+use Rattle.console.specs.Told.{EndsSince, Streams, Tells, calls_of, events_of, streams_of}
+use Rattle.console.specs.declared.input.Input.{Input}
+use Rattle.console.specs.declared.output.Output.{Output}
 use Rattle.console.specs.declared.running.Ran.{Ran}
 use Rattle.console.specs.declared.running.RunFault.{RunFault}
-use Rattle.console.specs.Runs.{IsRun}
-use Rattle.console.specs.Told.{Streams, Tells}
+use Rattle.console.specs.declared.running.RunFault.TheVariants as fault
 use Rattle.flusher.specs.declared.session.Session.{Session}
 use Rattle.stations.specs.OfSession.{at_session, of_session}
 
@@ -18,8 +22,35 @@ IsRunBy J base may_order s unread before result t after = IsRun Global (of_sessi
     (record { speaker = record { station = s.sender.station; orders = may_order }; world = at_session s; unread = unread; written = before })
     (record { result = result; world = at_session t; written = after })
 
--- The same whatever the reader and the writer are: what was read, and what was written after it was answered. Given are the session and the
--- streams before the run, and after it.
+-- What is told of a run (`IsRunBy`) whatever the reader and the writer are: what was read, and what was written after it was answered. Given
+-- are the session and the streams before the run, and after it.
 abbrev pub IsToldBy : (J : Type 0) → State → Bool → Session J → Streams → Result Ran RunFault → Session J → Streams → Type 0
 IsToldBy J base may_order s before result t after =
     Tells Global (of_session J base may_order) (record { station = s.sender.station; orders = may_order }) (at_session s) (at_session t) before after result
+
+module _ {J I O L F G : Type 0} where
+  -- The session answered lines from this input to this output, by at most so many calls of the reader. Given are the session, the input and
+  -- the output before the run, and the last two after it; the result is the session after it, and how it ended.
+  pub record HasAnswered (base : State) (unread : I → Option (List Byte)) (written : O → Option (List Byte)) (may_order : Bool) (turns : ℕ)
+      (session : Session J) (input input_now : Input I L F) (output output_now : Output O G) (result : Session J × Result Ran RunFault) : Type 0 where
+    -- how the lines were answered, and what the session is then
+    pub answers : IsRunBy J base may_order session (unread input.reader.now) (written output.writer.now) result.1 result.0 (written output_now.writer.now)
+    -- over any reader and any writer: what was read, and what was written after it was answered
+    pub told : IsToldBy J base may_order session (streams_of unread written input output) result.1 result.0 (streams_of unread written input_now output_now)
+    -- why it ended, by the calls of the reader and the writer
+    pub ends : EndsSince turns (calls_of input) (calls_of input_now) (events_of output) (events_of output_now) result.1
+
+  -- How often the reader of a run was called, and when each fault comes.
+  pub record IsCounted (turns : ℕ) (session : Session J) (input input_now : Input I L F) (output output_now : Output O G) (result : Session J × Result Ran RunFault) : Type 0 where
+    pub calls : input_now.steps.now ≤ input.steps.now + turns
+    pub read : IsErrOf result.1 fault.Read → (input_now.steps.now ≡ input.steps.now + turns) ⊎ (input.faults.now < input_now.faults.now)
+    pub write : output_now.failures.now ≡ output.failures.now + failures_reported result.1
+    pub memory : IsErrOf result.1 fault.NoMemory → (input_now.steps.now ≡ input.steps.now) × (result.0 ≡ session)
+
+-- An input and an output borrow the same reader, writer and ledgers as before: the ghost names of all these stay.
+pub record BorrowsSame {I O L F G : Type 0} (input input_now : Input I L F) (output output_now : Output O G) : Type 0 where
+  pub reader : input_now.reader.ghost_name ≡ input.reader.ghost_name
+  pub steps : input_now.steps.ghost_name ≡ input.steps.ghost_name
+  pub faults : input_now.faults.ghost_name ≡ input.faults.ghost_name
+  pub writer : output_now.writer.ghost_name ≡ output.writer.ghost_name
+  pub failures : output_now.failures.ghost_name ≡ output.failures.ghost_name

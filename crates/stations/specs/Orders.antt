@@ -15,7 +15,7 @@ abbrev pub may : Orders → Station → Bool
 may orders.OfAll station = true
 may (orders.Of named) station = list_any (λ one. one == station) named.now
 
--- the same, if these stations are named: without any, each may
+-- this station may give orders, if these are named: without any, each may
 abbrev pub may_by : List Station → Station → Bool
 may_by [] station = true
 may_by named station = list_any (λ one. one == station) named

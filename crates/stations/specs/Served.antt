@@ -27,7 +27,7 @@ use Rattle.flusher.specs.Core.{IsCoreRun}
 use Rattle.flusher.specs.Opened.{IsNewFlusher}
 use Rattle.flusher.specs.Order.{of_station}
 use Rattle.flusher.specs.Lasting.{AreLasting}
-use Rattle.flusher.specs.Runs.{AreRounds, HasTakenEnds}
+use Rattle.flusher.specs.Runs.{AreRounds, HasStopped, HasTakenEnds}
 use Rattle.flusher.specs.Served.{IsSettled}
 use Rattle.flusher.specs.Shared.{commands_among}
 use Rattle.flusher.specs.Since.{WasDurable}
@@ -72,8 +72,8 @@ IsReplyDurable disk base last received c reply =
 
 -- What is on a station's OUT, and that it was on the disk before. Given are the session after the run, what passed in it, what its reader had
 -- left, and what its writer held before the run and holds after it.
-pub record IsWrittenAfter {D I : Type 0} (disk : D → View) (J : Type 0) (base : State) (last : FlusherView D) (speaker : Speaker) (view : SessionView)
-    (passed : Passed I) (unread before after : Option (List Byte)) : Type 0 where
+pub record IsWrittenAfter {D I O : Type 0} (disk : D → View) (J : Type 0) (base : State) (last : FlusherView D) (speaker : Speaker) (view : SessionView)
+    (passed : Passed I O) (unread before after : Option (List Byte)) : Type 0 where
   -- the bytes that the calls of the reader gave are the first that it had left, if these are known
   pub gave : GaveFirst unread (read_by (reader_events passed))
   -- these are the first lines of them, and their answers, one for each
@@ -97,13 +97,14 @@ pub record IsWrittenAfter {D I : Type 0} (disk : D → View) (J : Type 0) (base 
 -- calls of each reader. This store and these runs came of it.
 pub record HasServed {D I O : Type 0} (disk : D → View) (J : Type 0) (base : State) (orders : Orders) (turns : ℕ) (unread : I → Option (List Byte)) (written : O → Option (List Byte))
     (opened : StoreView Global D) (ports : List (Port I O)) (store : StoreView Global D) (runs : List (StationRun I O)) : Type 0 where
-  -- a new flusher of the store did rounds until it had taken the end of each session; what is durable then is a history, and the register
-  -- of a sound store is what it makes of the base
+  -- a new flusher of the store did rounds until it had taken the end of each session, and none after; what is durable then is a history, and
+  -- the register of a sound store is what it makes of the base
   pub first : FlusherView D
   pub last : FlusherView D
   pub begun : IsNewFlusher (length ports) opened first
   pub rounds : AreRounds disk base first last
   pub ended : HasTakenEnds last
+  pub at_once : HasStopped disk base first last
   -- the rounds are one run of the core from its opening
   pub core : IsCoreRun base (length ports) first last
   pub settled : IsSettled base last
@@ -112,7 +113,7 @@ pub record HasServed {D I O : Type 0} (disk : D → View) (J : Type 0) (base : S
   pub kept : HasBeenHonest disk opened → IsStoredIn Global disk opened
   -- if it was, each image of the disk opens to what is durable in the end, or to that and what was under way when the disk failed
   pub stored : (disk opened.disk).honest → IsStoredIn Global disk opened → IsStoredFor disk base last
-  -- after a stop at any moment of the run the disk opens to what was durable at some moment of it
+  -- after a stop at any moment of the run the disk opens to no less than was durable at first, and to no more than is durable at last
   pub any_moment : (disk opened.disk).honest → IsStoredIn Global disk opened
       → LeavesOnly (disk opened.disk) (disk store.disk) (OpensBetween base first last)
   -- after the end of a round it opens to no less than was durable then

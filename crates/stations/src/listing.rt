@@ -1,11 +1,8 @@
 //! A listing of the register that a session reads.
-ghost use Rattle.std.specs.Prelude.{◌≡◌, ◌≤◌, ◌<◌, IfErr, IfNone, OnErr, OnOk, false, min, take, vec_capacity, vec_len};
-ghost use mathlib.Core.List.{IsPrefix};
-ghost use Rattle.desk.specs.Listed.{IsListed, IsUnlisted};
-ghost use Rattle.flusher.specs.Sessions.{IsSameSession};
+ghost use Rattle.std.specs.Prelude.{◌≡◌, ◌≤◌, ◌<◌, IfNone, false, min, take, vec_capacity, vec_len};
 ghost use Rattle.listings.specs.Texts.{is_line};
 ghost use Rattle.stations.specs.Listings.{takes_turn};
-ghost use Rattle.stations.specs.OfSession.{at_session, of_session};
+ghost use Rattle.stations.specs.Inside.Listing.{AddsListing};
 
 use crate::listing_gate::Turn;
 use crate::session_desk::Began;
@@ -44,14 +41,7 @@ fn read<K: Began, J: Centre>(
     out: &mut Vec<u8, Global>,
 ) -> Result<(), Outage>
     requires turn { IfNone turn (takes_turn listing.now ≡ false) }
-    ensures listed { OnOk result (IsListed (of_session J J.base K.may_order) (at_session session.old) listing.now out.old.items out.new.items (at_session session.new)) }
-    ensures unlisted { IfErr result (λ word.
-        IsUnlisted (of_session J J.base K.may_order) (at_session session.old) listing.now (vec_len out.old) (vec_capacity out.old) word (at_session session.new)) }
-    ensures kept { OnErr result (out.new.items ≡ out.old.items) }
-    ensures capacity { vec_capacity out.old ≤ vec_capacity out.new }
-    ensures same { IsSameSession session.old session.new }
-    ensures seen { IsPrefix session.old.viewer session.new.viewer }
-    ensures sent { session.new.sender.sent ≡ session.old.sender.sent }
+    ensures { AddsListing J.base K.may_order listing.now session.old session.new out.old out.new result }
 {
     match session.list(listing, out) {
         Ok(()) => Ok(()),
@@ -84,14 +74,7 @@ fn list_in_turn<K: Began, J: Centre, R: Wait>(
     listing: &Listing,
     out: &mut Vec<u8, Global>,
 ) -> Result<(), Outage>
-    ensures listed { OnOk result (IsListed (of_session J J.base K.may_order) (at_session session.old) listing.now out.old.items out.new.items (at_session session.new)) }
-    ensures unlisted { IfErr result (λ word.
-        IsUnlisted (of_session J J.base K.may_order) (at_session session.old) listing.now (vec_len out.old) (vec_capacity out.old) word (at_session session.new)) }
-    ensures kept { OnErr result (out.new.items ≡ out.old.items) }
-    ensures capacity { vec_capacity out.old ≤ vec_capacity out.new }
-    ensures same { IsSameSession session.old session.new }
-    ensures seen { IsPrefix session.old.viewer session.new.viewer }
-    ensures sent { session.new.sender.sent ≡ session.old.sender.sent }
+    ensures { AddsListing J.base K.may_order listing.now session.old session.new out.old out.new result }
 {
     let (size, room) = (out.len(), out.capacity());
     if let Err(word) = read::<K, J>(Some(turn), session, listing, out) {
@@ -111,14 +94,7 @@ pub(crate) fn list<K: Began, J: Centre, R: Wait + Clock>(
     listing: &Listing,
     out: &mut Vec<u8, Global>,
 ) -> Result<(), Outage>
-    ensures listed { OnOk result (IsListed (of_session J J.base K.may_order) (at_session session.old) listing.now out.old.items out.new.items (at_session session.new)) }
-    ensures unlisted { IfErr result (λ word.
-        IsUnlisted (of_session J J.base K.may_order) (at_session session.old) listing.now (vec_len out.old) (vec_capacity out.old) word (at_session session.new)) }
-    ensures kept { OnErr result (out.new.items ≡ out.old.items) }
-    ensures capacity { vec_capacity out.old ≤ vec_capacity out.new }
-    ensures same { IsSameSession session.old session.new }
-    ensures seen { IsPrefix session.old.viewer session.new.viewer }
-    ensures sent { session.new.sender.sent ≡ session.old.sender.sent }
+    ensures { AddsListing J.base K.may_order listing.now session.old session.new out.old out.new result }
 {
     if !takes_turn(listing) {
         return read::<K, J>(None, session, listing, out);

@@ -1,14 +1,16 @@
 //! Many stations over one store.
 ghost use Rattle.std.specs.Prelude.{◌≡◌, ◌≤◌, [], All, true, false, cond, IfErr, IfOk, length, map, vec_capacity, vec_len};
+ghost use Rattle.recovery.specs.Figures.{figures_at};
 ghost use Rattle.recovery.specs.Lives.{view_of as store_view};
+ghost use Rattle.console.specs.Service.{stations_of};
 ghost use Rattle.flusher.specs.declared.opening.CentreFault.TheVariants.{NoMemory, NoPlace};
 ghost use Rattle.flusher.specs.Closed.{AreSessionsOf, IsClosed};
 ghost use Rattle.flusher.specs.Opened.{AreNewSessions, IsNewFlusher, has_place};
 ghost use Rattle.flusher.specs.Runs.{HasTakenEnds};
 ghost use Rattle.flusher.specs.Served.{IsSettled};
 ghost use Rattle.flusher.specs.View.{view_of};
+ghost use Rattle.stations.specs.Many.{CameOfServing};
 ghost use Rattle.stations.specs.Orders.{may};
-ghost use Rattle.stations.specs.Served.{HasServed};
 
 use crate::job::{Done, Job};
 use crate::listing_gate::ListingGate;
@@ -203,8 +205,7 @@ fn serve_opened<
     requires sound { (view_of opened.0).store.broken ≡ false }
     requires sessions { AreNewSessions (view_of opened.0).taker.queue (view_of opened.0).senders opened.1.items }
     requires room { room.stations ≡ vec_len ports }
-    ensures { HasServed D.view J J.base terms.entry.orders terms.entry.turns I.remaining O.contents
-        (view_of opened.0).store ports.items (store_view result.store) result.runs.items }
+    ensures { CameOfServing D.view J J.base terms.entry.orders terms.entry.turns I.remaining O.contents (view_of opened.0).store ports.items result }
 {
     let (flusher, sessions) = opened;
     let Room {
@@ -225,6 +226,7 @@ fn serve_opened<
 // The figures of a store that is not broken.
 fn figures_of<D: Disk>(store: &Store<Global, D>) -> Figures
     requires { store.now.broken ≡ false }
+    ensures { result ≡ figures_at (store_view store.now) }
 {
     let Some(figures) = store.figures() else {
         unreachable!()
@@ -238,7 +240,9 @@ fn service_of(
     stations: usize,
     start: &Figures,
     syncs: &AtomicU64,
-) -> Result<ServiceFigures, AllocError> {
+) -> Result<ServiceFigures, AllocError>
+    ensures { IfOk result (λ service. stations_of service ≡ stations) }
+{
     let syncs = syncs.load(Ordering::SeqCst);
     ServiceFigures::new(alloc, stations, &since(start, start, syncs))
 }
@@ -269,8 +273,7 @@ pub fn run_many<
     requires centre { (terms.log.seen.book ≡ J.book) × (store.register ≡ J.base) }
 
     // How each station's lines were answered and why its run ended, and what became of the store. A station that may give no orders gave none.
-    ensures served { IfOk result (λ many. HasServed D.view J J.base terms.entry.orders terms.entry.turns I.remaining O.contents
-        (store_view store) ports.items (store_view many.store) many.runs.items) }
+    ensures served { IfOk result (CameOfServing D.view J J.base terms.entry.orders terms.entry.turns I.remaining O.contents (store_view store) ports.items) }
 
     // Which fault comes, and that the store comes back as it was.
     ensures place { IfOk result (λ many. has_place store.register.registered.limits.stations (vec_len ports) ≡ true) }

@@ -1,12 +1,7 @@
 //! The run of one station.
-ghost use Rattle.std.specs.Prelude.{◌≡◌, ◌⊎◌, ◌≤◌, ◌<◌, ◌+◌, IsErrOf, Some};
-ghost use mathlib.Core.List.{IsPrefix};
-ghost use Rattle.console.specs.Failures.{failures_reported};
-ghost use Rattle.console.specs.Told.{EndsSince, calls_of, events_of, streams_of};
-ghost use Rattle.flusher.specs.Sessions.{IsSameSession};
-ghost use Rattle.stations.specs.GoesOn.{GoesOn};
-ghost use Rattle.stations.specs.OneRun.{IsRunBy, IsToldBy};
-ghost use Rattle.stations.specs.Orders.{Submits};
+ghost use Rattle.std.specs.Prelude.{◌≡◌};
+ghost use Rattle.stations.specs.GoesOn.{GoesOn, GoesOnFrom, beginning_of};
+ghost use Rattle.stations.specs.OneRun.{BorrowsSame, HasAnswered, IsCounted};
 
 use crate::session_desk::{Began, SessionDesk};
 use crate::station_text::StationText;
@@ -57,32 +52,14 @@ pub fn run_session<
     output: &mut Output<O, G>,
     session: Session<J>,
 ) -> (Session<J>, Result<Ran, RunFault>)
-    // How the lines were answered, and what the session is then.
-    ensures answers { IsRunBy J J.base serving.now.orders session (I.remaining input.old.reader.now) (O.contents output.old.writer.now)
-        result.1 result.0 (O.contents output.new.writer.now) }
-    // Over any reader and any writer: what was read, and what was written after it was answered.
-    ensures told { IsToldBy J J.base serving.now.orders session (streams_of I.remaining O.contents input.old output.old)
-        result.1 result.0 (streams_of I.remaining O.contents input.new output.new) }
-    ensures same { IsSameSession session result.0 }
-    ensures seen { IsPrefix session.viewer result.0.viewer }
-    ensures submits { Submits serving.now.orders session.sender.sent result.0.sender.sent }
-
-    // Why it ended, by the calls of the reader and the writer.
-    ensures ends { EndsSince serving.now.turns (calls_of input.old) (calls_of input.new) (events_of output.old) (events_of output.new) result.1 }
-
+    // How the lines were answered, over any reader and any writer too, and why the run ended.
+    ensures lines { HasAnswered J.base I.remaining O.contents serving.now.orders serving.now.turns session input.old input.new output.old output.new result }
+    // The session that comes back.
+    ensures goes_on { GoesOnFrom serving.now.orders (beginning_of session) result.0 }
     // How often the reader was called, and when each fault comes.
-    ensures calls { input.new.steps.now ≤ input.old.steps.now + serving.now.turns }
-    ensures read { IsErrOf result.1 RunFault.Read →
-        (input.new.steps.now ≡ input.old.steps.now + serving.now.turns) ⊎ (input.old.faults.now < input.new.faults.now) }
-    ensures write { output.new.failures.now ≡ output.old.failures.now + failures_reported result.1 }
-    ensures memory { IsErrOf result.1 RunFault.NoMemory → (input.new.steps.now ≡ input.old.steps.now) × (result.0 ≡ session) }
-
-    // The ghost names of all that it was given stay.
-    ensures reader { input.new.reader.ghost_name ≡ input.old.reader.ghost_name }
-    ensures steps { input.new.steps.ghost_name ≡ input.old.steps.ghost_name }
-    ensures faults { input.new.faults.ghost_name ≡ input.old.faults.ghost_name }
-    ensures writer { output.new.writer.ghost_name ≡ output.old.writer.ghost_name }
-    ensures failures { output.new.failures.ghost_name ≡ output.old.failures.ghost_name }
+    ensures counts { IsCounted serving.now.turns session input.old input.new output.old output.new result }
+    // The input and the output still borrow all that they were given.
+    ensures borrows { BorrowsSame input.old input.new output.old output.new }
 {
     run_begun::<Brand, J, R, V, I, O, L, F, G>(serving, input, output, session)
 }
@@ -106,22 +83,10 @@ fn run_begun<
 ) -> (Session<J>, Result<Ran, RunFault>)
     requires goes_on { GoesOn K.may_order K.began session }
     requires orders { serving.now.orders ≡ K.may_order }
-    ensures answers { IsRunBy J J.base serving.now.orders session (I.remaining input.old.reader.now) (O.contents output.old.writer.now)
-        result.1 result.0 (O.contents output.new.writer.now) }
-    ensures told { IsToldBy J J.base serving.now.orders session (streams_of I.remaining O.contents input.old output.old)
-        result.1 result.0 (streams_of I.remaining O.contents input.new output.new) }
-    ensures ends { EndsSince serving.now.turns (calls_of input.old) (calls_of input.new) (events_of output.old) (events_of output.new) result.1 }
+    ensures lines { HasAnswered J.base I.remaining O.contents serving.now.orders serving.now.turns session input.old input.new output.old output.new result }
     ensures goes_on { GoesOn K.may_order K.began result.0 }
-    ensures calls { input.new.steps.now ≤ input.old.steps.now + serving.now.turns }
-    ensures read { IsErrOf result.1 RunFault.Read →
-        (input.new.steps.now ≡ input.old.steps.now + serving.now.turns) ⊎ (input.old.faults.now < input.new.faults.now) }
-    ensures write { output.new.failures.now ≡ output.old.failures.now + failures_reported result.1 }
-    ensures memory { IsErrOf result.1 RunFault.NoMemory → (input.new.steps.now ≡ input.old.steps.now) × (result.0 ≡ session) }
-    ensures reader { input.new.reader.ghost_name ≡ input.old.reader.ghost_name }
-    ensures steps { input.new.steps.ghost_name ≡ input.old.steps.ghost_name }
-    ensures faults { input.new.faults.ghost_name ≡ input.old.faults.ghost_name }
-    ensures writer { output.new.writer.ghost_name ≡ output.old.writer.ghost_name }
-    ensures failures { output.new.failures.ghost_name ≡ output.old.failures.ghost_name }
+    ensures counts { IsCounted serving.now.turns session input.old input.new output.old output.new result }
+    ensures borrows { BorrowsSame input.old input.new output.old output.new }
 {
     let terms = Terms {
         alloc: serving.alloc,

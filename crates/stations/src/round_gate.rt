@@ -1,4 +1,6 @@
 //! The gate of the rounds of a run: it keeps the figures of the store, and then calls the watch.
+ghost use Rattle.std.specs.Prelude.{◌≡◌};
+ghost use Rattle.stations.specs.Figures.{since};
 
 use crate::watch::Watch;
 use console::{ServiceFigures, StoreFigures};
@@ -7,7 +9,9 @@ use recovery::Figures;
 use std::sync::atomic::{AtomicU64, Ordering};
 
 /// The figures of a store, counted from those at the start of its service.
-pub(crate) fn since(start: &Figures, now: &Figures, syncs: u64) -> StoreFigures {
+pub(crate) fn since(start: &Figures, now: &Figures, syncs: u64) -> StoreFigures
+    ensures { result ≡ since start.now now.now syncs }
+{
     StoreFigures {
         commands: now.count.saturating_sub(start.count),
         syncs,

@@ -1,12 +1,12 @@
 //! A station's session as a desk.
 ghost use Rattle.std.specs.Prelude.{◌≡◌, ◌≤◌, ◌+◌, ◌++◌, [], true, All, IfErr, IfOk, IfSome, IsTrue, OnErr, OnOk, length, map, vec_capacity, vec_len};
-ghost use mathlib.Core.List.{IsPrefix};
 ghost use Rattle.console.specs.Reading.{is_order};
 ghost use Rattle.desk.specs.Listed.{IsListed, IsUnlisted};
 ghost use Rattle.desk.specs.Replies.{HasShortPdu};
 ghost use Rattle.desk.specs.Rules.{AreApplied};
-ghost use Rattle.flusher.specs.Sessions.{IsSameSession};
+ghost use Rattle.flusher.specs.Sessions.{HasOnlyRead};
 ghost use Rattle.flusher.specs.Submitted.{HasShortAnswer};
+ghost use Rattle.stations.specs.Inside.Kept.{KeepsSession};
 ghost use Rattle.stations.specs.OfSession.{AtSession, Applies, Answers, at_session, of_session, result_of, word_of};
 ghost use Rattle.stations.specs.Orders.{is_allowed};
 
@@ -76,6 +76,7 @@ impl<'r, 'w, 't, K: Began, J: Centre, R: Wait, V: Watch> Model
 
 impl<'r, 'w, 't, K: Began, J: Centre, R: Wait, V: Watch> SessionDesk<'r, 'w, 't, K, J, R, V> {
     ghost use Rattle.std.specs.Prelude.{◌≡◌};
+    ghost use Rattle.console.specs.Service.{with_result};
     ghost use Rattle.stations.specs.GoesOn.{GoesOn};
 
     /// This session as a desk. The watch is shown what it does.
@@ -95,8 +96,10 @@ impl<'r, 'w, 't, K: Began, J: Centre, R: Wait, V: Watch> SessionDesk<'r, 'w, 't,
         }
     }
 
-    // Shows what a command is answered.
-    fn show(&self, replied: &Result<Reply<Global>, Outage>, counts: &mut ReplyCounts) {
+    // Shows what a command is answered, and counts the reply, if there is one.
+    fn show(&self, replied: &Result<Reply<Global>, Outage>, counts: &mut ReplyCounts)
+        ensures { counts.new ≡ with_result counts.old replied.now }
+    {
         let station = self.session.station();
         if let Ok(reply) = replied {
             counts.add(reply);
@@ -184,8 +187,7 @@ fn submit<J: Centre, R: Wait>(
 ) -> Result<Reply<Global>, Outage>
     ensures applies { Applies J J.base means.now.orders (at_session session.old) command.now result (at_session session.new) }
     ensures short { IfOk result HasShortPdu }
-    ensures same { IsSameSession session.old session.new }
-    ensures seen { IsPrefix session.old.viewer session.new.viewer }
+    ensures session { KeepsSession session.old session.new }
 {
     if command.station != session.station() {
         return Err(Outage::Closed);
@@ -260,8 +262,7 @@ fn submit_each<J: Centre, R: Wait>(
     ensures applies { AreApplied (of_session J J.base means.now.orders) (at_session session.old) commands.now replies.new.items (at_session session.new) }
     ensures short { All (λ reply. IfOk reply HasShortPdu) replies.new.items }
     ensures room { vec_capacity replies.new ≡ vec_capacity replies.old }
-    ensures same { IsSameSession session.old session.new }
-    ensures seen { IsPrefix session.old.viewer session.new.viewer }
+    ensures session { KeepsSession session.old session.new }
 {
     for k in 0..commands.len() {
         let reply = submit(means, session, &commands[k]);
@@ -282,8 +283,7 @@ fn submit_all<J: Centre, R: Wait>(
     ensures applies { AreApplied (of_session J J.base means.now.orders) (at_session session.old) commands.now replies.new.items (at_session session.new) }
     ensures short { All (λ reply. IfOk reply HasShortPdu) replies.new.items }
     ensures room { vec_capacity replies.new ≡ vec_capacity replies.old }
-    ensures same { IsSameSession session.old session.new }
-    ensures seen { IsPrefix session.old.viewer session.new.viewer }
+    ensures session { KeepsSession session.old session.new }
 {
     replies.clear();
     let Some(mut answers) = room_for(means, session.station(), commands) else {
@@ -301,9 +301,7 @@ fn read<J: Centre>(
     query: &Query,
 ) -> Result<QueryAnswer<Global>, Outage>
     ensures answers { Answers J J.base (at_session session.old) query.now result (at_session session.new) }
-    ensures same { IsSameSession session.old session.new }
-    ensures seen { IsPrefix session.old.viewer session.new.viewer }
-    ensures sent { session.new.sender.sent ≡ session.old.sender.sent }
+    ensures session { HasOnlyRead session.old session.new }
 {
     match session.read(alloc, query) {
         Ok((query_answer, _)) => Ok(query_answer),

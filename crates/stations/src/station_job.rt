@@ -1,9 +1,8 @@
 //! What the thread of a station does.
-ghost use Rattle.std.specs.Prelude.{◌≡◌, ◌<◌, IsErrOf};
-ghost use Rattle.console.specs.Told.{EndsFor, reader_events, writer_events};
-ghost use Rattle.flusher.specs.Sessions.{IsSameSession, view_of};
-ghost use Rattle.stations.specs.Done.{IsDone, IsRunOf, IsToldOf, speaker_of};
-ghost use Rattle.stations.specs.Orders.{Submits};
+ghost use Rattle.std.specs.Prelude.{◌≡◌};
+ghost use Rattle.stations.specs.Done.{IsDone};
+ghost use Rattle.stations.specs.Inside.Answered.{AnswersJob, AnswersLines};
+ghost use Rattle.stations.specs.Inside.Ledgers.{MakesLedger};
 
 use crate::job::{Done, Job};
 use crate::listing_gate::ListingGate;
@@ -11,11 +10,11 @@ use crate::one_station::{Serving, run_session};
 use crate::port::Port;
 use crate::round_gate::RoundGate;
 use crate::station_run::StationRun;
-use crate::station_text::{StationText, TextWriter};
+use crate::station_text::StationText;
 use crate::watch::Watch;
-use console::{Input, Output, Passed, Ran, RunFault, ServiceFigures};
+use base::Steps;
+use console::{Input, Output, Passed, Ran, ReportingWriter, RunFault, ServiceFigures};
 use flusher::Session;
-use prefix_tree::Steps;
 use recovery::Figures;
 use registration::Station;
 use snapshots::Centre;
@@ -68,24 +67,11 @@ fn answer_in<
     reader: &mut I,
     writer: &mut O,
     session: Session<J>,
-) -> (Session<J>, Result<Ran, RunFault>, Passed<I>)
-    requires steps_name { blanks.steps.name ≡ L.name }
-    requires steps_parts { blanks.steps.parts ≡ L.parts }
-    requires steps_some { 0 < blanks.steps.parts }
-    requires faults_name { blanks.faults.name ≡ F.name }
-    requires faults_parts { blanks.faults.parts ≡ F.parts }
-    requires faults_some { 0 < blanks.faults.parts }
-    requires failures_name { blanks.failures.name ≡ G.name }
-    requires failures_parts { blanks.failures.parts ≡ G.parts }
-    requires failures_some { 0 < blanks.failures.parts }
-    ensures answers { IsRunOf J J.base (record { station = session.sender.station; orders = serving.now.orders }) (I.remaining reader.old) (O.contents writer.old) (view_of session) (view_of result.0)
-        (O.contents writer.new) result.1 }
-    ensures told { IsToldOf J J.base (record { station = session.sender.station; orders = serving.now.orders })
-        (I.remaining reader.old) (O.contents writer.old) result.2 (view_of session) (view_of result.0) (O.contents writer.new) result.1 }
-    ensures ends { EndsFor serving.now.turns (reader_events result.2) (writer_events result.2) result.1 }
-    ensures same { IsSameSession session result.0 }
-    ensures submits { Submits serving.now.orders session.sender.sent result.0.sender.sent }
-    ensures memory { IsErrOf result.1 RunFault.NoMemory → result.0 ≡ session }
+) -> (Session<J>, Result<Ran, RunFault>, Passed<I, O>)
+    requires steps { MakesLedger blanks.steps.name blanks.steps.parts L.name L.parts }
+    requires faults { MakesLedger blanks.faults.name blanks.faults.parts F.name F.parts }
+    requires failures { MakesLedger blanks.failures.name blanks.failures.parts G.name G.parts }
+    ensures { AnswersLines J.base serving.now.orders serving.now.turns (I.remaining reader.old) (O.contents writer.old) (O.contents writer.new) session result }
 {
     let Blanks {
         steps,
@@ -107,15 +93,8 @@ fn answer_lines<J: Centre, R: Wait + Clock, V: Watch, I: Read, O: Write>(
     reader: &mut I,
     writer: &mut O,
     session: Session<J>,
-) -> (Session<J>, Result<Ran, RunFault>, Passed<I>)
-    ensures answers { IsRunOf J J.base (record { station = session.sender.station; orders = serving.now.orders }) (I.remaining reader.old) (O.contents writer.old) (view_of session) (view_of result.0)
-        (O.contents writer.new) result.1 }
-    ensures told { IsToldOf J J.base (record { station = session.sender.station; orders = serving.now.orders })
-        (I.remaining reader.old) (O.contents writer.old) result.2 (view_of session) (view_of result.0) (O.contents writer.new) result.1 }
-    ensures ends { EndsFor serving.now.turns (reader_events result.2) (writer_events result.2) result.1 }
-    ensures same { IsSameSession session result.0 }
-    ensures submits { Submits serving.now.orders session.sender.sent result.0.sender.sent }
-    ensures memory { IsErrOf result.1 RunFault.NoMemory → result.0 ≡ session }
+) -> (Session<J>, Result<Ran, RunFault>, Passed<I, O>)
+    ensures { AnswersLines J.base serving.now.orders serving.now.turns (I.remaining reader.old) (O.contents writer.old) (O.contents writer.new) session result }
 {
     let blanks = Blanks {
         steps: Blank::new(1),
@@ -133,7 +112,9 @@ impl<'r, 'w, R: Wait, V: Watch> Shared<'r, 'w, R, V> {
     }
 
     /// The gate of the flusher's rounds.
-    pub(crate) fn round_gate(&self) -> RoundGate<'_, V> {
+    pub(crate) fn round_gate(&self) -> RoundGate<'_, V>
+        ensures { result.start ≡ self.now.start }
+    {
         RoundGate {
             watch: self.watch,
             service: &self.service,
@@ -176,15 +157,8 @@ fn run_station<J: Centre, R: Wait + Clock, V: Watch, I: Read, O: Write>(
     reader: &mut I,
     writer: &mut O,
     session: Session<J>,
-) -> (Session<J>, Result<Ran, RunFault>, Passed<I>)
-    ensures answers { IsRunOf J J.base (record { station = session.sender.station; orders = serving.now.orders }) (I.remaining reader.old) (O.contents writer.old) (view_of session) (view_of result.0)
-        (O.contents writer.new) result.1 }
-    ensures told { IsToldOf J J.base (record { station = session.sender.station; orders = serving.now.orders })
-        (I.remaining reader.old) (O.contents writer.old) result.2 (view_of session) (view_of result.0) (O.contents writer.new) result.1 }
-    ensures ends { EndsFor serving.now.turns (reader_events result.2) (writer_events result.2) result.1 }
-    ensures same { IsSameSession session result.0 }
-    ensures submits { Submits serving.now.orders session.sender.sent result.0.sender.sent }
-    ensures memory { IsErrOf result.1 RunFault.NoMemory → result.0 ≡ session }
+) -> (Session<J>, Result<Ran, RunFault>, Passed<I, O>)
+    ensures { AnswersLines J.base serving.now.orders serving.now.turns (I.remaining reader.old) (O.contents writer.old) (O.contents writer.new) session result }
 {
     if is_refused {
         return (session, Err(RunFault::NoMemory), Passed::nothing());
@@ -197,14 +171,7 @@ fn run_port<J: Centre, R: Wait + Clock, V: Watch, I: Read + Drop, O: Write + Dro
     shared: &Shared<R, V>,
     job: Job<J, I, O>,
 ) -> (Session<J>, StationRun<I, O>)
-    ensures answers { IsRunOf J J.base (speaker_of job) (I.remaining job.port.reader) (O.contents job.port.writer) (view_of job.session) (view_of result.0)
-        (O.contents result.1.writer) result.1.ran }
-    ensures told { IsToldOf J J.base (speaker_of job) (I.remaining job.port.reader) (O.contents job.port.writer) result.1.passed
-        (view_of job.session) (view_of result.0) (O.contents result.1.writer) result.1.ran }
-    ensures ends { EndsFor job.turns (reader_events result.1.passed) (writer_events result.1.passed) result.1.ran }
-    ensures same { IsSameSession job.session result.0 }
-    ensures submits { Submits job.orders job.session.sender.sent result.0.sender.sent }
-    ensures memory { IsErrOf result.1.ran RunFault.NoMemory → result.0 ≡ job.session }
+    ensures { AnswersJob J.base I.remaining O.contents job result }
 {
     let Job {
         session,
@@ -214,7 +181,7 @@ fn run_port<J: Centre, R: Wait + Clock, V: Watch, I: Read + Drop, O: Write + Dro
     } = job;
     let Port { mut reader, writer } = port;
     let text = StationText::new(&shared.gate, shared.rt);
-    let mut writer = TextWriter::new(writer, &text);
+    let mut writer = ReportingWriter::new(writer, &text);
     let is_refused = shared.is_refused(session.station());
     let serving = shared.serving(orders, turns, &text);
     let (session, ran, passed) = run_station(
@@ -225,8 +192,9 @@ fn run_port<J: Centre, R: Wait + Clock, V: Watch, I: Read + Drop, O: Write + Dro
         session,
     );
     text.release();
+    let (writer, passed) = writer.into_inner(passed);
     let run = StationRun {
-        writer: writer.into_inner(),
+        writer,
         ran,
         passed,
     };

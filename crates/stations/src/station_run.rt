@@ -9,5 +9,5 @@ pub struct StationRun<I, O: Drop> {
     /// How the run ended.
     pub ran: Result<Ran, RunFault>,
     /// What passed in the run. It takes no bytes, and only contracts read it.
-    pub passed: Passed<I>,
+    pub passed: Passed<I, O>,
 }

@@ -1,9 +1,7 @@
 //! The text of a station's listing, from when it is made until it is written.
-ghost use Rattle.std.specs.Prelude.{◌≡◌};
 
 use crate::listing_gate::{ListingGate, Turn};
-use std::io;
-use std::io::Write;
+use console::AfterFlush;
 use std::rt::Clock;
 use std::sync::Wait;
 use std::sync::atomic::{AtomicU64, Ordering};
@@ -57,42 +55,9 @@ impl<'g, 'r, R: Wait + Clock> StationText<'g, 'r, R> {
     }
 }
 
-/// A station's writer. Each flush ends an answer, whose text then counts no more.
-#[derive(Drop)]
-pub(crate) struct TextWriter<'t, 'r, W, R> {
-    writer: W,
-    text: &'t StationText<'t, 'r, R>,
-}
-
-impl<'t, 'r, W, R> TextWriter<'t, 'r, W, R> {
-    /// This writer, of a station with this text.
-    pub(crate) fn new(writer: W, text: &'t StationText<'t, 'r, R>) -> Self
-        ensures { result.writer ≡ writer }
-    {
-        TextWriter { writer, text }
-    }
-
-    /// The writer within, as the calls left it.
-    pub(crate) fn into_inner(self) -> W
-        ensures { result ≡ self.entry.writer }
-    {
-        let TextWriter { writer, text: _ } = self;
-        writer
-    }
-}
-
-impl<'t, 'r, W: Write, R: Wait> Write for TextWriter<'t, 'r, W, R> {
-    ghost contents = { λ one. W.contents one.writer };
-
-    fn write(&mut self, bytes: &[u8]) -> io::Result<usize> {
-        self.writer.write(bytes)
-    }
-
-    fn flush(&mut self) -> io::Result<()> {
-        let flushed = self.writer.flush();
-        if flushed.is_ok() {
-            self.text.release();
-        }
-        flushed
+// A flush ends an answer, whose text then counts no more.
+impl<'g, 'r, R: Wait> AfterFlush for StationText<'g, 'r, R> {
+    fn after_flush(&self) {
+        self.release();
     }
 }

@@ -3,7 +3,7 @@ ghost use Rattle.std.specs.Prelude.{◌≡◌, ◌≤◌, [], MatchResult, vec_c
 ghost use Rattle.std.specs.List.{AllZip};
 ghost use Rattle.flusher.specs.Served.{IsSettled};
 ghost use Rattle.flusher.specs.View.{view_of};
-ghost use Rattle.stations.specs.Done.{IsDone};
+ghost use Rattle.stations.specs.Done.{AreDone, IsDone};
 ghost use Rattle.stations.specs.Flushed.{HasFlushed};
 
 use crate::job::{Done, Job};
@@ -73,7 +73,7 @@ fn begin<
     I: Read + Send + Drop + 's,
     O: Write + Send + Drop + 's,
 >(scope: &Scope<'s, E>, shared: &'s Shared<'s, 's, R, V>, job: Job<J, I, O>) -> Begun<J, I, O>
-    ensures { MatchResult result (λ h. h.promise.job.value ≡ job) (λ done. IsDone J J.base I.remaining O.contents job done) }
+    ensures { MatchResult result (λ h. h.promise.job.value ≡ job) (IsDone J J.base I.remaining O.contents job) }
 {
     let station = job.session.station();
     let promise = DoneOf {
@@ -106,7 +106,7 @@ fn begin_all<
     requires new { begun.items ≡ [] }
     requires room { vec_len jobs ≤ vec_capacity begun }
     ensures begun { AllZip (λ job b. MatchResult b (λ h. h.promise.job.value ≡ job)
-        (λ done. IsDone J J.base I.remaining O.contents job done)) jobs.items result.items }
+        (IsDone J J.base I.remaining O.contents job)) jobs.items result.items }
     ensures count { vec_len result ≡ vec_len jobs }
 {
     for job in jobs {
@@ -174,7 +174,7 @@ fn serve_in<
     requires settled { IsSettled J.base (view_of flusher.old) }
     requires room { vec_len jobs ≤ room.stations }
     ensures flushed { HasFlushed D.view J.base (view_of flusher.old) (view_of flusher.new) }
-    ensures done { AllZip (λ job done. IsDone J J.base I.remaining O.contents job done) jobs.items result.items }
+    ensures done { AreDone J J.base I.remaining O.contents jobs.items result.items }
 {
     let begun = begin_all(scope, shared, jobs, room.begun);
     flusher.run(shared.rt, &shared.round_gate());
@@ -202,7 +202,7 @@ fn serve_held<
     requires settled { IsSettled J.base (view_of held.flusher) }
     requires room { vec_len jobs ≤ room.stations }
     ensures flushed { HasFlushed D.view J.base (view_of held.entry.flusher) (view_of result.0.flusher) }
-    ensures done { AllZip (λ job done. IsDone J J.base I.remaining O.contents job done) jobs.items result.1.items }
+    ensures done { AreDone J J.base I.remaining O.contents jobs.items result.1.items }
 {
     let done = serve_in(scope, shared, &mut held.flusher, jobs, room);
     (held, done)
@@ -227,7 +227,7 @@ pub(crate) fn serve_all<
     requires settled { IsSettled J.base (view_of held.flusher) }
     requires room { vec_len jobs ≤ room.stations }
     ensures flushed { HasFlushed D.view J.base (view_of held.entry.flusher) (view_of result.0.flusher) }
-    ensures done { AllZip (λ job done. IsDone J J.base I.remaining O.contents job done) jobs.items result.1.items }
+    ensures done { AreDone J J.base I.remaining O.contents jobs.items result.1.items }
 {
     thread::scope(
         thread::scope_env(),
@@ -235,7 +235,7 @@ pub(crate) fn serve_all<
         move |scope| -> (Held<R, J, D>, Vec<Done<J, I, O>>)
             requires { IsSettled J.base (view_of held.flusher) × (vec_len jobs ≤ room.stations) }
             ensures { HasFlushed D.view J.base (view_of held.entry.flusher) (view_of result.0.flusher)
-                × AllZip (λ job done. IsDone J J.base I.remaining O.contents job done) jobs.items result.1.items }
+                × AreDone J J.base I.remaining O.contents jobs.items result.1.items }
         { serve_held(scope, shared, held, jobs, room) },
     )
 }

@@ -5,7 +5,7 @@ ghost use Rattle.std.specs.Prelude.{◌≡◌, false};
 use crate::stores::new_store;
 use console::{Ran, RunFault};
 use flusher::Gate;
-use live_centre::{WatchedDisk, comes_to};
+use probe_live_centre::{WatchedDisk, comes_to};
 use recovery::Store;
 use registration::Station;
 use snapshots::{Centre, NewLog};

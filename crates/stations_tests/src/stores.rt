@@ -1,7 +1,7 @@
 //! The store that the stations of a test share.
 ghost use Rattle.std.specs.Prelude.{◌≡◌, false, IfSome};
 
-use live_centre::{WatchedDisk, opened, with_rule, worked_disk};
+use probe_live_centre::{WatchedDisk, opened, with_rule, worked_disk};
 use recovery::Store;
 use std::alloc::Global;
 

@@ -5,7 +5,7 @@ ghost use Rattle.std.specs.Prelude.{◌≡◌, ◌≤◌, false, length};
 use crate::stores::new_store;
 use console::{Ran, RunFault};
 use flusher::Gate;
-use live_centre::WatchedDisk;
+use probe_live_centre::WatchedDisk;
 use recovery::Store;
 use registration::Station;
 use snapshots::{Centre, NewLog};

@@ -4,7 +4,7 @@ ghost use Rattle.std.specs.Prelude.{◌≡◌};
 use crate::publishing::{empty, publish_all, visited};
 use crate::turns::TURNS;
 use centre_core::{Query, QueryAnswer, Register};
-use live_register::{LiveRegister, make_live};
+use probe_live_register::{LiveRegister, make_live};
 use snapshots::{Centre, NewLog, Viewer};
 use std::alloc::Global;
 use std::marker::Brand;

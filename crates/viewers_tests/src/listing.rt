@@ -4,7 +4,7 @@ ghost use Rattle.std.specs.Prelude.{◌≡◌};
 use crate::publishing::{empty, publish_all};
 use centre_core::Register;
 use listings::{Listing, Table};
-use live_register::make_live;
+use probe_live_register::make_live;
 use snapshots::{Centre, NewLog, Viewer};
 use std::alloc::Global;
 use std::marker::Brand;

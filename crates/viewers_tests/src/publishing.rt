@@ -1,6 +1,6 @@
-//! A publisher of the commands of `live_register`, by number.
+//! A publisher of the commands of `probe_live_register`, by number.
 use centre_core::{Query, QueryAnswer, Register};
-use live_register::{LiveRegister, command, itsi, limits};
+use probe_live_register::{LiveRegister, command, itsi, limits};
 use snapshots::{Centre, Viewer, Visit};
 use std::alloc::Global;
 use std::sync::{Arc, Wait};

@@ -4,7 +4,7 @@ ghost use Rattle.std.specs.Prelude.{◌≡◌, ◌<◌, ◌≤◌};
 use crate::publishing::{empty, is_after, publish_one, visited};
 use crate::turns::{TURNS, comes_to, rest};
 use centre_core::Register;
-use live_register::{LiveRegister, make_live};
+use probe_live_register::{LiveRegister, make_live};
 use snapshots::{Centre, NewLog, Viewer, Visit};
 use std::alloc::Global;
 use std::marker::Brand;

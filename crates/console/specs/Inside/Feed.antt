@@ -84,23 +84,23 @@ module _ {A W : Type 0} (rules : Rules A W) (old : Reached A W) where
   StopsWithin bytes fault new = (start : Start W) (begun : Sent) (taken rest : List Byte) → IsGoing rules start begun taken old →
       HasEnded rules start begun (taken ++ bytes ++ rest) new.written new.world (Err fault)
 
-  -- the same two where nothing of the current line has come
+  -- it has taken these bytes, before which nothing of the current line had come
   abbrev pub GoesOnAtLine : List Byte → Reached A W → Type 0
   GoesOnAtLine bytes new =
       (start : Start W) (begun : Sent) (taken : List Byte) (going : IsGoing rules start begun taken old) → going.line ≡ [] → IsGoing rules start begun (taken ++ bytes) new
 
-  -- it has ended there
+  -- it has ended with this fault within these bytes, before which nothing of the current line had come
   abbrev pub StopsAtLine : List Byte → RunFault → Reached A W → Type 0
   StopsAtLine bytes fault new =
       (start : Start W) (begun : Sent) (taken rest : List Byte) (going : IsGoing rules start begun taken old) → going.line ≡ [] →
       HasEnded rules start begun (taken ++ bytes ++ rest) new.written new.world (Err fault)
 
-  -- the same two within a piece of the text: it had been taken up to one place, and is now taken up to a later one
+  -- it had taken a piece of the text up to one place, and has now taken it up to a later one
   abbrev pub GoesOnIn : List Byte → ℕ → ℕ → Reached A W → Type 0
   GoesOnIn piece at next new =
       (start : Start W) (begun : Sent) (taken : List Byte) → IsGoing rules start begun (taken ++ take at piece) old → IsGoing rules start begun (taken ++ take next piece) new
 
-  -- it has ended there
+  -- it had taken a piece of the text up to this place, and has ended with this fault within the rest of it
   abbrev pub StopsIn : List Byte → ℕ → RunFault → Reached A W → Type 0
   StopsIn piece at fault new =
       (start : Start W) (begun : Sent) (taken rest : List Byte) → IsGoing rules start begun (taken ++ take at piece) old →

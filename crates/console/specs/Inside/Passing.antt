@@ -36,6 +36,6 @@ pub record Passes (old new : Sent) (waiting answered left : List Byte) : Type 0 
   pub answers : answered_by events ≡ answered
   pub only : Leaves waiting events left
 
--- the same where the writer failed: only a prefix of these answers was given, and some of their text may be left
+-- events up to a failure of the writer: only a prefix of these answers was given, and some of their text may be left
 abbrev pub PassesPart : Sent → Sent → List Byte → Type 0
 PassesPart old new answered = (made : List Byte) × (missing : List Byte) × (left : List Byte) × (answered ≡ made ++ missing) × Passes old new [] made left

@@ -1,10 +1,16 @@
 -- What a stop leaves of two runs of writes.
-use Rattle.std.specs.Prelude.{◌≡◌, ◌⊎◌, ℕ, ◌<◌, ◌≤◌, ◌+◌, List, length, OnOk, Result}
+use Rattle.std.specs.Prelude.{◌≡◌, ◌⊎◌, ℕ, ◌<◌, ◌≤◌, ◌+◌, List, length, IsErr, IsErrOf, OnOk, Result}
 use Rattle.sector_disk.specs.Numbers.{Byte, Sector, Sectors}
 use Rattle.sector_disk.specs.Disk.{View, IsImageOf, sector}
-use Rattle.sector_disk.specs.Run.{LeavesOnly}
+use Rattle.sector_disk.specs.Effects.{KeepsDisk}
+use Rattle.sector_disk.specs.Run.{HasCalled, HasMade, LeavesOnly}
 use Rattle.sector_disk.specs.declared.disk.DiskError.{DiskError}
+use Rattle.sector_disk.specs.declared.disk.DiskError.TheVariants.{OutOfRange}
+use Rattle.sector_disk.specs.declared.record.Call.{Call}
+use Rattle.gated_journal.specs.Calls.{settled_both_calls}
+use Rattle.gated_journal.specs.Record.{data_sector}
 use Rattle.gated_journal.specs.Twice.{IsTornTwiceImage}
+use Rattle.gated_journal.specs.declared.both.Run.{Run}
 
 -- Two runs of writes: n sectors from at on, and then m sectors from to on, with these bytes. Until both end, these sectors may
 -- hold anything.
@@ -17,3 +23,18 @@ pub record HasFilledTwice (old new : View) (at : Sector) (n : Sectors) (bytes : 
   pub others : (k : ℕ) → (k < at) ⊎ (at + n ≤ k) → (k < to) ⊎ (to + m ≤ k) → sector new.reads k ≡ sector old.reads k
   pub written : OnOk result ((k : ℕ) → k < n → sector new.reads (at + k) ≡ bytes k)
   pub also : OnOk result ((k : ℕ) → k < m → sector new.reads (to + k) ≡ more k)
+
+-- Runs of writes, and the sync after them if there is one. A call that fails is the last, and it fails only if the device does.
+pub record Runs (old new : View) (made : List Call) (result : Result Unit DiskError) : Type 0 where
+  pub calls : OnOk result (HasCalled old new made)
+  pub some_calls : HasMade old new made
+  pub keeps : KeepsDisk old new (IsErr result)
+  pub in_range : IsErrOf result OutOfRange → ⊥
+
+-- two runs of a text's sectors are filled
+abbrev pub AreFilled : View → View → Run → Run → Result Unit DiskError → Type 0
+AreFilled old new x y result = HasFilledTwice old new x.at x.sectors (data_sector x.text.now) y.at y.sectors (data_sector y.text.now) result
+
+-- both runs are written and synced
+abbrev pub both_calls : Run → Run → List Call
+both_calls x y = settled_both_calls x.at x.sectors x.text.now y.at y.sectors y.text.now

@@ -3,8 +3,8 @@ use Rattle.std.proofs.Common.{◌≡◌, ℕ, zero, suc, ◌+◌, ◌*◌, ◌^�
 use Rattle.std.proofs.Common.{[], ◌∷◌, ◌++◌, length, get_or, take, drop, replicate, refl, sym, ap, subst, ◌∙◌, arith}
 use Rattle.std.specs.Prelude.{◌==◌}
 use Rattle.std.specs.Int.{bit_at, from_bool}
-use Rattle.std.proofs.lemmas.Nat.{mod-pow-add, pow-add, pow_pos, shr-shr}
-use Rattle.std.proofs.lemmas.List.{length_push, take_at, drop_at}
+use Rattle.std.proofs.lemmas.Nat.{mod-pow-add, pow_pos, shr-shr}
+use Rattle.std.proofs.lemmas.List.{take_at, drop_at}
 use Rattle.std.proofs.Math.Numerals.{one-add}
 use Rattle.std.proofs.lemmas.Nat.Bits.{bit_at_cat_low, bit_at_cat_high, bit_at-lt, bit_at-zero}
 use Rattle.std.proofs.Math.Nat.{pow-suc, mod-eq_of_lt}
@@ -26,10 +26,6 @@ bit_back : (n : ℕ) → n < 2 → from_bool (n == 1) ≡ n
 bit_back zero lt = refl
 bit_back (suc zero) lt = refl
 bit_back (suc (suc n)) lt = absurd (omega arith)
-
-bool_back : (b : Bool) → (from_bool b == 1) ≡ b
-bool_back true = refl
-bool_back false = refl
 
 pub number-num_mod : (w v : ℕ) → number (num w v) ≡ v % 2 ^ w
 unfolding num number
@@ -71,14 +67,6 @@ num-number (b ∷ bits) =
       num-cat (length bits) (length bits) (from_bool b) (number bits) (omega arith),
       num-number bits,
     ) refl
-
-pub number-push : (bits : List Bool) (b : Bool) → number (bits ++ b ∷ []) ≡ 2 * number bits + from_bool b
-unfolding number
-number-push [] true = refl
-number-push [] false = refl
-number-push (true ∷ bits) b =
-    rw (length_push bits b, number-push bits b, pow-add 2 (length bits) 1) (omega arith)
-number-push (false ∷ bits) b = rw (number-push bits b) (omega arith)
 
 -- higher bits do not matter
 pub num-mod : (w v : ℕ) → num w (v % 2 ^ w) ≡ num w v

@@ -1,8 +1,9 @@
 ghost use Rattle.std.specs.Prelude.{◌≡◌, ◌<◌};
 
 use crate::trees::number::Number;
+use base::Steps;
 use identity::Prefix;
-use prefix_tree::{PrefixTree, Steps};
+use prefix_tree::PrefixTree;
 use std::alloc::Global;
 use std::sync::ledger::{Blank, Ledger};
 

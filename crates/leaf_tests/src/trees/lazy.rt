@@ -1,9 +1,10 @@
 //! A map that is made for its first value and freed with the last.
 
 use crate::trees::number::Number;
+use base::TryCopy;
 use identity::Prefix;
 use linked_list_allocator::LocalHeap;
-use prefix_tree::{LazyMap, TryCopy};
+use prefix_tree::LazyMap;
 use std::test::Fail;
 
 type Map<'h> = LazyMap<Number, &'h LocalHeap>;

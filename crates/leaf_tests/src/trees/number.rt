@@ -1,4 +1,4 @@
-use prefix_tree::TryCopy;
+use base::TryCopy;
 use std::alloc::AllocError;
 
 /// A value that is copied without memory.

@@ -1,7 +1,8 @@
 use crate::trees::number::Number;
+use base::TryCopy;
 use identity::Prefix;
 use linked_list_allocator::LocalHeap;
-use prefix_tree::{PrefixTree, TryCopy};
+use prefix_tree::PrefixTree;
 use std::alloc::Global;
 use std::test::Fail;
 

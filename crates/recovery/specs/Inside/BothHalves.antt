@@ -1,22 +1,20 @@
--- The same record in two halves of a disk: x and y are the places where it goes.
-use Rattle.std.specs.Prelude.{ℕ, List}
+-- The same record in two halves of a disk.
+use Rattle.std.specs.Prelude.{◌⊎◌, ◌≤◌, ◌+◌, List, length}
 use Rattle.std.specs.Borrow.{Bor}
-use Rattle.sector_disk.specs.Disk.{View}
-use Rattle.sector_disk.specs.Run.{LeavesOnly}
+use Rattle.sector_disk.specs.Numbers.{Sectors}
 use Rattle.centre_core.specs.Asked.{Asked}
+use Rattle.centre_core.specs.State.{last_number}
 use Rattle.gated_journal.specs.declared.place.Place.{Place}
-use Rattle.gated_journal.specs.Half.{Entry}
-use Rattle.gated_journal.specs.Settled.{HaveOneMore, IsSettled, LeavesBoth, new_entry}
+use Rattle.gated_journal.specs.Record.{data_size, most_commands}
+use Rattle.gated_journal.specs.Settled.{room_of, text_at}
 
-module _ (A : Type 0) (old new : View) (x y : Place) where
-  -- a stop leaves each half with the record of these commands or without it
-  abbrev pub BothLeave : {B : Type 0} → List (Bor (Asked B)) → Type 0
-  BothLeave commands =
-      (before start : ℕ) (entries others : List (Entry A)) → old.honest → IsSettled old x before entries → IsSettled old y start others
-      → LeavesOnly old new (LeavesBoth old x y before start entries others (new_entry A x commands) (new_entry A y commands))
-
-  -- each half has that record, and the next one goes to the places u and v
-  abbrev pub BothKeep : {B : Type 0} → Place → Place → List (Bor (Asked B)) → Type 0
-  BothKeep u v commands =
-      (before start : ℕ) (entries others : List (Entry A)) → old.honest → IsSettled old x before entries → IsSettled old y start others
-      → HaveOneMore new u v before start entries others (new_entry A x commands) (new_entry A y commands)
+-- A record of these commands, at least one, fits at both places, in halves apart of a disk with so many sectors.
+pub record MayAddToBoth {B : Type 0} (A : Type 0) (sectors : Sectors) (x y : Place) (commands : List (Bor (Asked B))) : Type 0 where
+  pub within : (x.end ≤ sectors) × (y.end ≤ sectors)
+  pub apart : (x.end ≤ y.first) ⊎ (y.end ≤ x.first)
+  pub some : 1 ≤ length commands
+  pub few : length commands ≤ most_commands
+  pub fits : data_size (text_at A x commands) ≤ room_of x
+  pub other_fits : data_size (text_at A y commands) ≤ room_of y
+  pub counts : x.count + length commands ≤ last_number
+  pub other_counts : y.count + length commands ≤ last_number

@@ -1,10 +1,12 @@
-use Rattle.std.proofs.Common.{◌≡◌, ◌<◌, List, ℕ, slice_index, sym, ap, ◌∙◌, arith}
+use Rattle.std.proofs.Common.{◌≡◌, ◌<◌, false, List, ℕ, slice_index, sym, ap, ◌∙◌, arith}
 use Rattle.sector_disk.specs.Disk.{View, sector}
 use Rattle.gated_journal.specs.Half.{IsOpen}
 use Rattle.checkpoint.specs.Layout.{other_of, root_at}
-use Rattle.checkpoint.proofs.Apart.{root_inside}
-use Rattle.checkpoint.proofs.Called.{calls_at_root, calls_in_root, root_left, root_left_made, root_shut, root_unread, root_written}
+use Rattle.checkpoint.specs.Calls.{is_root_open, root_calls_by}
+use Rattle.checkpoint.proofs.ByRoot.{calls_where_closed, root_done, root_failed, root_tried}
+use Rattle.checkpoint.proofs.Called.{calls_at_root, calls_in_root, root_left, root_shut, root_written}
 use Rattle.checkpoint.proofs.Closed.{in_read, in_root}
+use Rattle.checkpoint.proofs.Spared.{closed_as}
 use Rattle.checkpoint.proofs.closing.close_root.Goals as goal
 
 pub returns-in_err-read-clause-any_moment : goal.returns-in_err-read-clause-any_moment
@@ -12,18 +14,18 @@ returns-in_err-read-clause-any_moment g c form base held honest each =
     let layout = c.args.layout.now in
     let old : View = g.D.Disk.view c.args.disk.now in
     let place : c.root-root.result ≡ root_at (other_of c.args.current) = c.root-root.ensures ∙ ap root_at c.other.ensures in
-    let inside : c.root-root.result < old.sectors = rw place (root_inside layout (other_of c.args.current) old.sectors c.requires.room) in
+    let inside : c.root-root.result < old.sectors = rw place c.requires.inside in
     let has = rw place at (c.in_err-read.ensures.effect inside honest) in
-    in_read layout c.args.current form base held old _ (g.met.D.Disk.sound c.args.disk.now honest) c.requires.room each _ _ has
+    in_read layout c.args.current form base held old _ (g.met.D.Disk.sound c.args.disk.now honest) c.requires.inside each _ _ has
 
 pub returns-then-bytes-ne1-clause-any_moment : goal.returns-then-bytes-ne1-clause-any_moment
 returns-then-bytes-ne1-clause-any_moment g c form base held honest each =
     let layout = c.args.layout.now in
     let old : View = g.D.Disk.view c.args.disk.now in
     let place : c.root-root.result ≡ root_at (other_of c.args.current) = c.root-root.ensures ∙ ap root_at c.other.ensures in
-    let inside : c.root-root.result < old.sectors = rw place (root_inside layout (other_of c.args.current) old.sectors c.requires.room) in
+    let inside : c.root-root.result < old.sectors = rw place c.requires.inside in
     let has = rw place at (c.in_ok-read.ensures.effect inside honest) in
-    in_read layout c.args.current form base held old _ (g.met.D.Disk.sound c.args.disk.now honest) c.requires.room each _ _ has
+    in_read layout c.args.current form base held old _ (g.met.D.Disk.sound c.args.disk.now honest) c.requires.inside each _ _ has
 
 pub returns-in_err-write-clause-any_moment : goal.returns-in_err-write-clause-any_moment
 returns-in_err-write-clause-any_moment g c form base held honest each =
@@ -31,11 +33,12 @@ returns-in_err-write-clause-any_moment g c form base held honest each =
     let old : View = g.D.Disk.view c.args.disk.now in
     let mid : View = g.D.Disk.view c.read.new.self in
     let place : c.root-root.result ≡ root_at (other_of c.args.current) = c.root-root.ensures ∙ ap root_at c.other.ensures in
-    let inside : c.root-root.result < old.sectors = rw place (root_inside layout (other_of c.args.current) old.sectors c.requires.room) in
+    let inside : c.root-root.result < old.sectors = rw place c.requires.inside in
     let has = rw place at (c.in_ok-read.ensures.effect inside honest) in
     let same : mid.sectors ≡ old.sectors = c.in_ok-read.ensures.cause.sectors in
     let wrote = rw place at (c.in_err-write.ensures.effect (omega (arith, inside, same)) has.honest) in
-    in_root layout c.args.current form base held old mid (g.met.D.Disk.sound c.args.disk.now honest) c.requires.room each c.read.new.bytes _ _ _ has c.if-bytes-ne1.false (g.met.D.Disk.sound c.read.new.self has.honest) same wrote
+    in_root layout c.args.current form base held old mid (g.met.D.Disk.sound c.args.disk.now honest) c.requires.inside each c.read.new.bytes _ _ _ has
+    c.if-bytes-ne1.false (g.met.D.Disk.sound c.read.new.self has.honest) same wrote
 
 pub returns-clause-any_moment : goal.returns-clause-any_moment
 returns-clause-any_moment g c form base held honest each =
@@ -43,65 +46,62 @@ returns-clause-any_moment g c form base held honest each =
     let old : View = g.D.Disk.view c.args.disk.now in
     let mid : View = g.D.Disk.view c.read.new.self in
     let place : c.root-root.result ≡ root_at (other_of c.args.current) = c.root-root.ensures ∙ ap root_at c.other.ensures in
-    let inside : c.root-root.result < old.sectors = rw place (root_inside layout (other_of c.args.current) old.sectors c.requires.room) in
+    let inside : c.root-root.result < old.sectors = rw place c.requires.inside in
     let has = rw place at (c.in_ok-read.ensures.effect inside honest) in
     let same : mid.sectors ≡ old.sectors = c.in_ok-read.ensures.cause.sectors in
     let wrote = rw place at (c.in_ok-write.ensures.effect (omega (arith, inside, same)) has.honest) in
-    in_root layout c.args.current form base held old mid (g.met.D.Disk.sound c.args.disk.now honest) c.requires.room each c.read.new.bytes _ _ _ has c.if-bytes-ne1.false (g.met.D.Disk.sound c.read.new.self has.honest) same wrote
+    in_root layout c.args.current form base held old mid (g.met.D.Disk.sound c.args.disk.now honest) c.requires.inside each c.read.new.bytes _ _ _ has
+    c.if-bytes-ne1.false (g.met.D.Disk.sound c.read.new.self has.honest) same wrote
 
-pub returns-in_err-write-clause-some_calls : goal.returns-in_err-write-clause-some_calls
-returns-in_err-write-clause-some_calls g c honest =
+pub returns-in_err-read-clause-made : goal.returns-in_err-read-clause-made
+returns-in_err-read-clause-made g c =
     let old : View = g.D.Disk.view c.args.disk.now in
+    let new : View = g.D.Disk.view c.read.new.self in
     let place : c.root-root.result ≡ root_at (other_of c.args.current) = c.root-root.ensures ∙ ap root_at c.other.ensures in
-    let inside : c.root-root.result < old.sectors = rw place (root_inside c.args.layout.now (other_of c.args.current) old.sectors c.requires.room) in
+    let tried = root_tried (other_of c.args.current) old new c.read.result (rw place at c.read.ensures.called) in
+    root_failed old new (other_of c.args.current) (root_calls_by (other_of c.args.current)) _ c.from_residual.ensures.0 (λ honest. tried (is_root_open (other_of c.args.current) old.reads)) (false, tried false)
+
+pub returns-then-bytes-ne1-clause-made : goal.returns-then-bytes-ne1-clause-made
+returns-then-bytes-ne1-clause-made g c =
+    let old : View = g.D.Disk.view c.args.disk.now in
+    let new : View = g.D.Disk.view c.read.new.self in
+    let place : c.root-root.result ≡ root_at (other_of c.args.current) = c.root-root.ensures ∙ ap root_at c.other.ensures in
+    let inside : c.root-root.result < old.sectors = rw place c.requires.inside in
+    let called = rw place at c.in_ok-read.ensures.called.made in
+    root_done old new (other_of c.args.current) (root_calls_by (other_of c.args.current)) tt
+    (λ honest.
+    let has = rw place at (c.in_ok-read.ensures.effect inside honest) in
+    calls_where_closed (other_of c.args.current) old new (closed_as c.read.new.bytes (sector old.reads (root_at (other_of c.args.current))) (sym has.given) c.if-bytes-ne1.true) called)
+    (root_left (other_of c.args.current) old new called)
+
+pub returns-in_err-write-clause-made : goal.returns-in_err-write-clause-made
+returns-in_err-write-clause-made g c =
+    let old : View = g.D.Disk.view c.args.disk.now in
+    let mid : View = g.D.Disk.view c.read.new.self in
+    let new : View = g.D.Disk.view c.write.new.self in
+    let place : c.root-root.result ≡ root_at (other_of c.args.current) = c.root-root.ensures ∙ ap root_at c.other.ensures in
+    let inside : c.root-root.result < old.sectors = rw place c.requires.inside in
+    let were = rw place at c.in_ok-read.ensures.called.made in
+    let called = rw place at c.write.ensures.called in
+    root_failed old new (other_of c.args.current) (root_calls_by (other_of c.args.current)) _ c.from_residual-in_err-write.ensures.0
+    (λ honest.
     let has = rw place at (c.in_ok-read.ensures.effect inside honest) in
     let opened : IsOpen (sector old.reads (root_at (other_of c.args.current))) = ap (λ (bytes : List ℕ). slice_index bytes 0) (sym has.given) ∙ c.if-bytes-ne1.false in
-    calls_in_root (other_of c.args.current) old (g.D.Disk.view c.read.new.self) opened (rw place at c.in_ok-read.ensures.called.made) _ c.write.result (rw place at c.write.ensures.called)
+    calls_in_root (other_of c.args.current) old mid opened were new c.write.result called)
+    (root_written (other_of c.args.current) old mid were new c.write.result called)
 
-pub returns-clause-calls : goal.returns-clause-calls
-returns-clause-calls g c honest =
+pub returns-clause-made : goal.returns-clause-made
+returns-clause-made g c =
     let old : View = g.D.Disk.view c.args.disk.now in
+    let mid : View = g.D.Disk.view c.read.new.self in
+    let new : View = g.D.Disk.view c.write.new.self in
     let place : c.root-root.result ≡ root_at (other_of c.args.current) = c.root-root.ensures ∙ ap root_at c.other.ensures in
-    let inside : c.root-root.result < old.sectors = rw place (root_inside c.args.layout.now (other_of c.args.current) old.sectors c.requires.room) in
+    let inside : c.root-root.result < old.sectors = rw place c.requires.inside in
+    let were = rw place at c.in_ok-read.ensures.called.made in
+    let called = rw place at c.in_ok-write.ensures.called.made in
+    root_done old new (other_of c.args.current) (root_calls_by (other_of c.args.current)) tt
+    (λ honest.
     let has = rw place at (c.in_ok-read.ensures.effect inside honest) in
     let opened : IsOpen (sector old.reads (root_at (other_of c.args.current))) = ap (λ (bytes : List ℕ). slice_index bytes 0) (sym has.given) ∙ c.if-bytes-ne1.false in
-    calls_at_root (other_of c.args.current) old (g.D.Disk.view c.read.new.self) opened (rw place at c.in_ok-read.ensures.called.made) (g.D.Disk.view c.write.new.self) (rw place at c.in_ok-write.ensures.called.made)
-
-pub returns-clause-some_calls : goal.returns-clause-some_calls
-returns-clause-some_calls g c honest =
-    let old : View = g.D.Disk.view c.args.disk.now in
-    let place : c.root-root.result ≡ root_at (other_of c.args.current) = c.root-root.ensures ∙ ap root_at c.other.ensures in
-    let inside : c.root-root.result < old.sectors = rw place (root_inside c.args.layout.now (other_of c.args.current) old.sectors c.requires.room) in
-    let has = rw place at (c.in_ok-read.ensures.effect inside honest) in
-    let opened : IsOpen (sector old.reads (root_at (other_of c.args.current))) = ap (λ (bytes : List ℕ). slice_index bytes 0) (sym has.given) ∙ c.if-bytes-ne1.false in
-    calls_in_root (other_of c.args.current) old (g.D.Disk.view c.read.new.self) opened (rw place at c.in_ok-read.ensures.called.made) _ c.write.result (rw place at c.write.ensures.called)
-
-pub returns-in_err-read-clause-some_calls_on_any_disk : goal.returns-in_err-read-clause-some_calls_on_any_disk
-returns-in_err-read-clause-some_calls_on_any_disk g c =
-    let place : c.root-root.result ≡ root_at (other_of c.args.current) = c.root-root.ensures ∙ ap root_at c.other.ensures in
-    root_unread (other_of c.args.current) (g.D.Disk.view c.args.disk.now) (g.D.Disk.view c.read.new.self) c.read.result (rw place at c.read.ensures.called)
-
-pub returns-then-bytes-ne1-clause-calls_on_any_disk : goal.returns-then-bytes-ne1-clause-calls_on_any_disk
-returns-then-bytes-ne1-clause-calls_on_any_disk g c =
-    let place : c.root-root.result ≡ root_at (other_of c.args.current) = c.root-root.ensures ∙ ap root_at c.other.ensures in
-    root_left (other_of c.args.current) (g.D.Disk.view c.args.disk.now) (g.D.Disk.view c.read.new.self) (rw place at c.in_ok-read.ensures.called.made)
-
-pub returns-then-bytes-ne1-clause-some_calls_on_any_disk : goal.returns-then-bytes-ne1-clause-some_calls_on_any_disk
-returns-then-bytes-ne1-clause-some_calls_on_any_disk g c =
-    let place : c.root-root.result ≡ root_at (other_of c.args.current) = c.root-root.ensures ∙ ap root_at c.other.ensures in
-    root_left_made (other_of c.args.current) (g.D.Disk.view c.args.disk.now) (g.D.Disk.view c.read.new.self) (rw place at c.in_ok-read.ensures.called.made)
-
-pub returns-in_err-write-clause-some_calls_on_any_disk : goal.returns-in_err-write-clause-some_calls_on_any_disk
-returns-in_err-write-clause-some_calls_on_any_disk g c =
-    let place : c.root-root.result ≡ root_at (other_of c.args.current) = c.root-root.ensures ∙ ap root_at c.other.ensures in
-    root_written (other_of c.args.current) (g.D.Disk.view c.args.disk.now) (g.D.Disk.view c.read.new.self) (rw place at c.in_ok-read.ensures.called.made) (g.D.Disk.view c.write.new.self) c.write.result (rw place at c.write.ensures.called)
-
-pub returns-clause-calls_on_any_disk : goal.returns-clause-calls_on_any_disk
-returns-clause-calls_on_any_disk g c =
-    let place : c.root-root.result ≡ root_at (other_of c.args.current) = c.root-root.ensures ∙ ap root_at c.other.ensures in
-    root_shut (other_of c.args.current) (g.D.Disk.view c.args.disk.now) (g.D.Disk.view c.read.new.self) (rw place at c.in_ok-read.ensures.called.made) (g.D.Disk.view c.write.new.self) (rw place at c.in_ok-write.ensures.called.made)
-
-pub returns-clause-some_calls_on_any_disk : goal.returns-clause-some_calls_on_any_disk
-returns-clause-some_calls_on_any_disk g c =
-    let place : c.root-root.result ≡ root_at (other_of c.args.current) = c.root-root.ensures ∙ ap root_at c.other.ensures in
-    root_written (other_of c.args.current) (g.D.Disk.view c.args.disk.now) (g.D.Disk.view c.read.new.self) (rw place at c.in_ok-read.ensures.called.made) (g.D.Disk.view c.write.new.self) c.write.result (rw place at c.write.ensures.called)
+    calls_at_root (other_of c.args.current) old mid opened were new called)
+    (root_shut (other_of c.args.current) old mid were new called)

@@ -10,8 +10,8 @@ put_rows-requires-clause-room g c =
     let layout = c.args.layout.now in
     let place : c.slot.result ≡ slot_at layout (other_of c.args.current) = c.slot.ensures ∙ ap (slot_at layout) c.other.ensures in
     let places = lies layout (other_of c.args.current) in
-    let fit = rows_have_room layout c.args.progress.now.epoch c.args.register.now c.registers.ensures.state c.requires.limits in
-    let room = c.requires.room in
+    let fit = rows_have_room layout c.args.progress.now.epoch c.args.register.now c.registers.ensures.state c.requires.fits.limits in
+    let room = c.requires.fits.room in
     omega (arith, place, fit, places.slot, places.half, room)
 
 pub put_rows-requires-clause-fits : goal.put_rows-requires-clause-fits
@@ -19,26 +19,14 @@ put_rows-requires-clause-fits g c =
     let layout = c.args.layout.now in
     let place : c.slot.result ≡ slot_at layout (other_of c.args.current) = c.slot.ensures ∙ ap (slot_at layout) c.other.ensures in
     let places = lies layout (other_of c.args.current) in
-    let fit = rows_have_room layout c.args.progress.now.epoch c.args.register.now c.registers.ensures.state c.requires.limits in
+    let fit = rows_have_room layout c.args.progress.now.epoch c.args.register.now c.registers.ensures.state c.requires.fits.limits in
     omega (arith, place, fit, places.slot, places.half, places.short)
-
-pub returns-clause-effect : goal.returns-clause-effect
-returns-clause-effect g c honest =
-    let layout = c.args.layout.now in
-    let place : c.slot.result ≡ slot_at layout (other_of c.args.current) = c.slot.ensures ∙ ap (slot_at layout) c.other.ensures in
-    rw place at (c.put_rows.ensures.effect honest)
-
-pub returns-clause-calls : goal.returns-clause-calls
-returns-clause-calls g c =
-    let layout = c.args.layout.now in
-    let place : c.slot.result ≡ slot_at layout (other_of c.args.current) = c.slot.ensures ∙ ap (slot_at layout) c.other.ensures in
-    rw place at c.put_rows.ensures.calls
-
-pub returns-clause-some_calls : goal.returns-clause-some_calls
-returns-clause-some_calls g c =
-    let layout = c.args.layout.now in
-    let place : c.slot.result ≡ slot_at layout (other_of c.args.current) = c.slot.ensures ∙ ap (slot_at layout) c.other.ensures in
-    rw place at c.put_rows.ensures.some_calls
 
 pub returns-clause-progress : goal.returns-clause-progress
 returns-clause-progress g c = subst (λ (epoch : ℕ). IsProgress epoch c.args.register.now c.put_rows.new.progress) (sym c.put_rows.ensures.epoch) c.put_rows.ensures.progress
+
+pub returns-clause-rows : goal.returns-clause-rows
+returns-clause-rows g c =
+    let layout = c.args.layout.now in
+    let place : c.slot.result ≡ slot_at layout (other_of c.args.current) = c.slot.ensures ∙ ap (slot_at layout) c.other.ensures in
+    rw place at c.put_rows.ensures.rows

@@ -1,7 +1,6 @@
 use Rattle.std.proofs.Common.{◌≡◌, ◌-◌, ◌≤◌, ◌++◌}
 use Rattle.sector_disk.specs.Disk.{View}
-use Rattle.sector_disk.specs.Reading.{before_reads}
-use Rattle.sector_disk.specs.Run.{HasOnlyRead}
+use Rattle.sector_disk.specs.Effects.{OnlyReads}
 use Rattle.image_rows.specs.Image.{slot_of}
 use Rattle.checkpoint.specs.OnSide.{sectors_from}
 use Rattle.checkpoint.specs.Reading.{read_calls}
@@ -14,10 +13,7 @@ invariant-loop-first g l =
     let now : View = g.D.Disk.view l.disk in
     record {
       few : l.read ≤ l.sectors;
-      sectors : now.sectors ≡ old.sectors;
-      later : old.failures ≤ now.failures;
-      only_read : old.honest → HasOnlyRead old now;
-      only_reads : before_reads now.calls ≡ before_reads old.calls;
+      reads : OnlyReads old now ⊥;
       limits : l.loader.state.registered.limits ≡ l.layout.limits;
       calls : now.calls ≡ old.calls ++ read_calls l.first l.read;
       rest : old.honest → rest_of old.reads l.first l.sectors l.read l.loader ≡ slot_of l.layout.limits (sectors_from old.reads l.first l.sectors);

@@ -24,4 +24,6 @@ pub returns : goal.returns
 returns c =
     let long : bytes_for c.args.len ≤ length c.args.bytes.now = omega (arith, c.if-bytes-width.false) in
     let yes : list_all not (drop c.args.len (bits_of c.split_at.result.0.now)) ≡ true = sym c.ends_in_zeros.ensures ∙ c.if-not-ends_in_zeros.false in
-    rw (c.split_at.ensures.front, c.split_at.ensures.back) (sym (left_found (bytes_for c.args.len) c.args.len c.args.bytes.now (λ i. omega (arith, c.type_inv.bytes i)) long (rw c.split_at.ensures.front at yes)))
+    rw (c.split_at.ensures.front, c.split_at.ensures.back)
+    (sym (left_found (bytes_for c.args.len) c.args.len c.args.bytes.now (λ i. omega (arith, c.type_inv.bytes i)) long
+    (rw c.split_at.ensures.front at yes)))

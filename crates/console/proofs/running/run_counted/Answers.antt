@@ -12,14 +12,26 @@ use Rattle.console.proofs.running.run_counted.Goals as goal
 
 pub returns-in_default-clause-answers : goal.returns-in_default-clause-answers
 returns-in_default-clause-answers g c = λ input before known held.
-    let start : Start g.D.Desk.World = record { speaker = speaker_of c.args.terms; world = g.D.Desk.world c.args.desk.now; unread = g.R.Read.remaining c.args.input.now.reader.now; written = g.W.Write.contents c.args.output.now.writer.now } in
+    let start : Start g.D.Desk.World =
+    record {
+      speaker = speaker_of c.args.terms;
+      world = g.D.Desk.world c.args.desk.now;
+      unread = g.R.Read.remaining c.args.input.now.reader.now;
+      written = g.W.Write.contents c.args.output.now.writer.now;
+    } in
     let begun = sent_by g.W.Write.contents c.args.output.now in
     has_run g.D.Desk.rules start begun input before begun start.world (Err NoMemory) held
     (short_at_once g.D.Desk.rules start begun input NoMemory begun (still_passes begun []))
 
 pub returns-in_default-clause-told : goal.returns-in_default-clause-told
 returns-in_default-clause-told g c =
-    let start : Start g.D.Desk.World = record { speaker = speaker_of c.args.terms; world = g.D.Desk.world c.args.desk.now; unread = g.R.Read.remaining c.args.input.now.reader.now; written = g.W.Write.contents c.args.output.now.writer.now } in
+    let start : Start g.D.Desk.World =
+    record {
+      speaker = speaker_of c.args.terms;
+      world = g.D.Desk.world c.args.desk.now;
+      unread = g.R.Read.remaining c.args.input.now.reader.now;
+      written = g.W.Write.contents c.args.output.now.writer.now;
+    } in
     let begun = sent_by g.W.Write.contents c.args.output.now in
     let read = all_read c.args.input.now in
     told_of g.D.Desk.rules start begun begun start.world (Err NoMemory) read [] read start.unread (sym (append-nil read)) (λ input known. (input, refl))
@@ -43,4 +55,5 @@ returns-in_default-clause-ends g c = ends_at_once c.args.terms.turns (calls_of c
 
 pub returns-clause-ends : goal.returns-clause-ends
 returns-clause-ends g c =
-    subst (λ (l : List Event). EndsSince c.args.terms.turns (calls_of c.args.input.now) (calls_of c.take_all.new.input) (events_of c.args.output.now) l c.take_all.result) (search rules) c.take_all.ensures.ends
+    subst (λ (l : List Event). EndsSince c.args.terms.turns (calls_of c.args.input.now) (calls_of c.take_all.new.input) (events_of c.args.output.now)
+    l c.take_all.result) (search rules) c.take_all.ensures.ends

@@ -17,6 +17,8 @@ returns-clause-answers g c = λ whole kept.
     let world = g.D.Desk.world c.args.desk.now in
     let sequence = c.in-Err.unread.sequence in
     let text : c.in-Some.line.now ≡ whole = subst (λ (o : Option (Bor (List ℕ))). KeepsLine (option_map {T = Bor (List ℕ)} {U = List ℕ} (λ l. l.now) o) whole) c.in-Some.is kept in
-    let pdu = subst (λ (r : Result (Line g.row.A.Denot) Unread). IfErr r (λ unread. sequence_of (heard {A = g.row.A.Denot} speaker c.in-Some.line.now) ≡ Some unread.sequence)) c.in-Err.is c.hear_line-said.ensures.err in
+    let pdu = subst (λ (r : Result (Line g.row.A.Denot) Unread).
+    IfErr r (λ unread. sequence_of (heard {A = g.row.A.Denot} speaker c.in-Some.line.now) ≡ Some unread.sequence)) c.in-Err.is
+    c.hear_line-said.ensures.err in
     subst (λ (l : List ℕ). Answers g.D.Desk.rules speaker number world l (CommandOutage sequence Memory) world) text
     (pdu_outage g.D.Desk.rules number world (heard speaker c.in-Some.line.now) sequence pdu)

@@ -3,7 +3,7 @@ use Rattle.std.specs.Prelude.{IfOk, Result}
 use Rattle.std.specs.List.{list_any}
 use Rattle.std.proofs.lemmas.List.{append-nil, take_all}
 use Rattle.std.proofs.lemmas.List.Concat.{flat_map-append}
-use Rattle.mailbox.proofs.Results.{known_err}
+use Rattle.base.proofs.Results.{on_err}
 use Rattle.centre_core.specs.declared.reply.Reply.{Reply}
 use Rattle.desk.specs.declared.outage.Outage.{Outage}
 use Rattle.desk.specs.Replies.{HasShortPdu}
@@ -35,7 +35,7 @@ returns-in_err-make_room-clause-err g c =
     let first = answers_for (take k cs) (take k rs) in
     let last = answers_for (drop k cs) (drop k rs) in
     let failed = c.in_err-make_room.ensures.err in
-    known_err c.from_residual.result
+    on_err c.from_residual.result
     (part_passes (sent_by g.W.Write.contents c.args.output.now) (sent_by g.W.Write.contents c.loop-k.output) (sent_by g.W.Write.contents c.make_room.new.output)
     (texts first) c.loop-k.page.items failed.0 (texts (answers_for cs rs)) (texts last) c.loop-k.invariant.told failed.1 (ap texts (answers_split k cs rs) ∙ flat_map-append text first last))
 
@@ -64,7 +64,8 @@ loop-k-preserved g c =
       page = omega (arith, i.page, c.make_room.ensures.capacity, c.give_result-troubled.ensures.capacity);
       told = passes_by begun (sent_by contents c.give_result-troubled.new.output) [] ((texts first ++ []) ++ text a) page [] (texts (answers_for (take (k + 1) cs) (take (k + 1) rs))) page refl
           (ap (λ l. l ++ text a) (append-nil (texts first)) ∙ sym (texts_more first a) ∙ ap texts (sym more)) refl
-          (passes_on begun (sent_by contents c.make_room.new.output) (sent_by contents c.give_result-troubled.new.output) [] (texts first ++ []) made (text a) page room c.give_result-troubled.ensures.told);
+          (passes_on begun (sent_by contents c.make_room.new.output) (sent_by contents c.give_result-troubled.new.output) [] (texts first ++ []) made
+          (text a) page room c.give_result-troubled.ensures.told);
       trouble = (λ j. i.trouble j || c.give_result-troubled.ensures.trouble j) ∙ sym (trouble_more first a) ∙ ap (list_any is_trouble) (sym more);
       writer = c.give_result-troubled.ensures.writer ∙ c.make_room.ensures.writer ∙ i.writer;
       failures = c.give_result-troubled.ensures.failures ∙ c.make_room.ensures.failures ∙ i.failures;
@@ -82,10 +83,11 @@ returns-in_err-send-clause-err g c =
     let failed = c.in_err-send.ensures.err in
     let mid = sent_by contents c.loop-k.output in
     let new = sent_by contents c.send.new.self in
-    known_err c.from_residual-in_err-send.result
+    on_err c.from_residual-in_err-send.result
     (part_passes (sent_by contents c.args.output.now) mid new
     (texts first) c.loop-k.page.items failed.0 (texts (answers_for cs rs)) (texts last) c.loop-k.invariant.told
-    (passes_by mid new c.as_slice.result.now [] failed.0 c.loop-k.page.items [] failed.0 c.as_slice.ensures.value refl refl failed.1) (ap texts (answers_split k cs rs) ∙ flat_map-append text first last))
+    (passes_by mid new c.as_slice.result.now [] failed.0 c.loop-k.page.items [] failed.0 c.as_slice.ensures.value refl refl failed.1)
+    (ap texts (answers_split k cs rs) ∙ flat_map-append text first last))
 
 pub returns-clause-ok : goal.returns-clause-ok
 returns-clause-ok g c =

@@ -25,4 +25,5 @@ pub returns-in_err-done-clause-effect : goal.returns-in_err-done-clause-effect
 returns-in_err-done-clause-effect g c within honest =
     let was = c.loop-call.invariant.put within honest in
     let inside : c.args.at < (g.F.SectorFile.view c.loop-call.file).sectors = omega (arith, within, c.loop-call.invariant.gone.sectors) in
-    put_failed c.args.at c.args.bytes.now _ _ _ c.loop-call.done c.write_more.result c.from_residual.result (g.met.F.SectorFile.sound c.args.file.now honest) was (c.write_more.ensures.effect inside was.rest.honest) c.from_residual.ensures.0
+    put_failed c.args.at c.args.bytes.now _ _ _ c.loop-call.done c.write_more.result c.from_residual.result
+    (g.met.F.SectorFile.sound c.args.file.now honest) was (c.write_more.ensures.effect inside was.rest.honest) c.from_residual.ensures.0

@@ -2,6 +2,7 @@ use Rattle.std.proofs.Common.{◌+◌, ◌<◌, ◌∙◌, Ok, arith, refl}
 use Rattle.sector_disk.specs.Disk.{View}
 use Rattle.sector_disk.proofs.Filled.{fill_none, fill_wider}
 use Rattle.file_disk.proofs.Blank.{one_more, zeros}
+use Rattle.file_disk.proofs.GivenUp.{given_up_at}
 use Rattle.file_disk.proofs.zeros.fill_each.Goals as goal
 
 pub loop-k-init : goal.loop-k-init
@@ -9,6 +10,7 @@ loop-k-init g c =
     let old : View = g.F.SectorFile.view c.args.file.now in
     record {
       sectors = refl;
+      later = omega arith;
       filled = λ within honest. fill_none old c.args.at zeros honest (g.met.F.SectorFile.sound c.args.file.now honest);
     }
 
@@ -32,8 +34,20 @@ loop-k-preserved g c =
     let new : View = g.F.SectorFile.view c.write_sector.new.file in
     record {
       sectors = c.write_sector.ensures.sectors ∙ c.loop-k.invariant.sectors;
+      later = omega (arith, c.loop-k.invariant.later, c.write_sector.ensures.later);
       filled = λ within honest.
           let was = c.loop-k.invariant.filled within honest in
           let inside : c.args.at + c.loop-k.k < mid.sectors = omega (arith, c.loop-k.invariant.sectors, within) in
           one_more old mid new c.args.at c.loop-k.k (Ok tt) was (c.in_ok-write_sector.ensures.effect inside was.honest) (g.met.F.SectorFile.sound c.loop-k.file was.honest) inside;
     }
+
+pub returns-in_err-write_sector-clause-later : goal.returns-in_err-write_sector-clause-later
+returns-in_err-write_sector-clause-later g c = omega (arith, c.loop-k.invariant.later, c.write_sector.ensures.later)
+
+pub returns-in_err-write_sector-clause-given_up : goal.returns-in_err-write_sector-clause-given_up
+returns-in_err-write_sector-clause-given_up g c =
+    given_up_at g.F.SectorFile.view g.F.SectorFile.turns c.args.file.now c.loop-k.file c.write_sector.new.file c.from_residual.result
+    c.loop-k.invariant.later c.in_err-write_sector.ensures.given_up.1
+
+pub returns-clause-later : goal.returns-clause-later
+returns-clause-later g c = c.loop-k.invariant.later

@@ -9,5 +9,6 @@ invariant-loop-k g l =
     let now : View = g.F.SectorFile.view l.file in
     record {
       sectors : now.sectors ≡ old.sectors;
+      later : old.failures ≤ now.failures;
       filled : l.at + l.count ≤ old.sectors → old.honest → HasFilled old now l.at l.k (λ k. replicate 512 0) (Ok tt);
     }

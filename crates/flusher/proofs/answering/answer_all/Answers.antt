@@ -48,7 +48,9 @@ loop-command-preserved g c =
       (
         i.4.0 ++ x ∷ [],
         append_assoc i.4.0 (x ∷ []) (sent_by moment published all cs os) ∙ (λ j. i.4.0 ++ sent_by moment published all (sym e j) (sym f j)) ∙ i.4.1,
-        answered_on _ _ _ _ _ i.4.2 (subst (λ s. HaveAnswered c.loop-command.senders.items (sent moment cmd published s ∷ []) c.answer_one.new.senders.items) c.decision_of-decision.ensures c.answer_one.ensures),
+        answered_on _ _ _ _ _ i.4.2
+            (subst (λ s. HaveAnswered c.loop-command.senders.items (sent moment cmd published s ∷ []) c.answer_one.new.senders.items)
+            c.decision_of-decision.ensures c.answer_one.ensures),
       ),
       c.in-Some.ensures.capacity ∙ i.5,
     )

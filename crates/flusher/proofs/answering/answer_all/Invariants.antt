@@ -13,7 +13,9 @@ invariant-loop-command g l =
     × BearsOutDecisions g.J.Centre.base l.shown.stamp.published l.shown.all (commands_in l.batch.items) l.outcomes.rest.items
     × (length l.outcomes.rest.items ≡ length l.batch.items)
     × AreShort l.outcomes.rest.items
-    × ((sofar : List Sent) × (sofar ++ sent_by l.shown.stamp.moment.tick l.shown.stamp.published l.shown.all (commands_in l.batch.items) l.outcomes.rest.items ≡ sent_by l.shown.stamp.moment.tick l.shown.stamp.published l.shown.all (commands_in l.initial.batch.items) l.fn.outcomes.items)
+    × ((sofar : List Sent) ×
+    (sofar ++ sent_by l.shown.stamp.moment.tick l.shown.stamp.published l.shown.all (commands_in l.batch.items) l.outcomes.rest.items ≡ sent_by
+    l.shown.stamp.moment.tick l.shown.stamp.published l.shown.all (commands_in l.initial.batch.items) l.fn.outcomes.items)
     × HaveAnswered l.initial.senders.items sofar l.senders.items)
     × (deque_capacity l.batch ≡ deque_capacity l.initial.batch)
 

@@ -26,7 +26,9 @@ loop-command-preserved g c =
       (
         i.1.0 ++ x ∷ [],
         append_assoc i.1.0 (x ∷ []) (sent_to_all moment published s (commands_in c.pop_front.new.self.items)) ∙ ap (λ cs. i.1.0 ++ sent_to_all moment published s cs) (sym e) ∙ i.1.1,
-        answered_on _ _ _ _ _ i.1.2 (subst (λ t. HaveAnswered c.loop-command.senders.items (sent moment (arc_value c.in-Some.command) published t ∷ []) c.answer_one.new.senders.items) c.decision_for_all.ensures c.answer_one.ensures),
+        answered_on _ _ _ _ _ i.1.2
+            (subst (λ t. HaveAnswered c.loop-command.senders.items (sent moment (arc_value c.in-Some.command) published t ∷ [])
+            c.answer_one.new.senders.items) c.decision_for_all.ensures c.answer_one.ensures),
       ),
       c.in-Some.ensures.capacity ∙ i.2,
     )
@@ -38,7 +40,8 @@ returns-clause-answered g c =
     let published = c.args.stamp.now.published in
     let moment = c.args.stamp.now.moment.tick in
     let s = decision_for_all c.args.fault in
-    subst (λ xs. HaveAnswered c.args.senders.now.items xs c.loop-command.senders.items) (sym (append-nil i.1.0) ∙ ap (λ cs. i.1.0 ++ sent_to_all moment published s (commands_in cs)) (sym none) ∙ i.1.1) i.1.2
+    subst (λ xs. HaveAnswered c.args.senders.now.items xs c.loop-command.senders.items)
+    (sym (append-nil i.1.0) ∙ ap (λ cs. i.1.0 ++ sent_to_all moment published s (commands_in cs)) (sym none) ∙ i.1.1) i.1.2
 
 pub answer_one-requires-clause-short : goal.answer_one-requires-clause-short
 answer_one-requires-clause-short g c = subst HasShortDecision (sym c.decision_for_all.ensures) (alike_short c.args.fault)

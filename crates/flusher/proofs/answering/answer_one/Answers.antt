@@ -20,4 +20,6 @@ returns g c =
     let mine : (arc_value c.args.command).station ≡ i + 1 = omega (arith, is, pos) in
     subst (λ (q : List (Asked Global) × ℕ). HaveAnswered items (sent q.1 (arc_value c.args.command) q.0 c.args.decision ∷ []) (slice_set items i c.send.new.self))
     (λ j. (c.copy-published.ensures j, c.copy-moment.ensures j))
-    (one_answered items i c.index_mut.result.now c.send.new.self (sent c.copy-moment.result.tick (arc_value c.args.command) c.copy-published.result c.args.decision) (at_or items i c.index_mut.result.now inside (search rules)) mine c.send.ensures.same c.send.ensures.sent)
+    (one_answered items i c.index_mut.result.now c.send.new.self
+    (sent c.copy-moment.result.tick (arc_value c.args.command) c.copy-published.result c.args.decision)
+    (at_or items i c.index_mut.result.now inside (search rules)) mine c.send.ensures.same c.send.ensures.sent)

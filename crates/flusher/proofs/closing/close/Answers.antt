@@ -31,5 +31,6 @@ returns-clause-closed g c =
     let total = c.total.ensures.total in
     let has = ends_are_taken (view_of f) f.stations f.flags c.requires.settled.ended (c.has_ended.ensures.0 c.if-not-has_ended.false) in
     let sent = subst (λ (t : Taking). AreAllSent t.taken total.0 t.settled) c.settle_each.ensures.settled total.1 in
-    let seen = subst (λ (q : List (Ended g.row.J.Denot) × List (Asked Global)). All (λ (e : Ended g.row.J.Denot). IsPrefix e.viewer q.1) q.0) (λ j. (c.deref.ensures.value j, c.published.ensures j)) c.wait_within_each-2.ensures in
+    let seen = subst (λ (q : List (Ended g.row.J.Denot) × List (Asked Global)). All (λ (e : Ended g.row.J.Denot). IsPrefix e.viewer q.1) q.0)
+    (λ j. (c.deref.ensures.value j, c.published.ensures j)) c.wait_within_each-2.ensures in
     all_closed (view_of f) c.args.ended.items c.requires.sessions g.J.Centre.base f.taker.settled total.0 c.requires.settled has sent c.settle_each.ensures.received seen

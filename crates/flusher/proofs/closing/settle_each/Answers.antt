@@ -3,6 +3,7 @@ use Rattle.std.specs.Prelude.{map}
 use Rattle.std.specs.List.{AllZip}
 use Rattle.std.proofs.lemmas.List.{append-nil, map-append}
 use mathlib.Core.List.{IsPrefix}
+use Rattle.base.proofs.Lists.{nil_of_length, zip_push}
 use Rattle.crossbeam_channel.specs.Ends.{sends_on, receives_on}
 use Rattle.answers.specs.Views.{sent_of, received_of}
 use Rattle.answers.specs.declared.channel.AnswerSender.{AnswerSender}
@@ -11,7 +12,7 @@ use Rattle.station_queue.specs.Ends.{Taking, with_settled}
 use Rattle.station_queue.specs.Order.{settled}
 use Rattle.flusher.specs.Stages.{Sent}
 use Rattle.flusher.specs.declared.session.Ended.{Ended}
-use Rattle.flusher.proofs.Closed.{more_settled, next_of_all, no_first, no_items, none_settled, too_few, zip_push}
+use Rattle.flusher.proofs.Closed.{more_settled, next_of_all, no_first, none_settled, too_few}
 use Rattle.flusher.proofs.closing.settle_each.Goals as goal
 
 module _ {J : Type 0} where
@@ -46,7 +47,8 @@ loop-end-preserved g c =
     let e : c.loop-end.end-iterator.rest.items ≡ end ∷ c.next.new.self.rest.items = search rules in
     let f : c.loop-end.senders.rest.items ≡ sender ∷ c.next-in-loop-end.new.self.rest.items = c.in-Some-next.ensures.items in
     let both = subst (λ (q : List (AnswerSender Sent) × List (Ended g.row.J.Denot)). AllZip OnOne q.0 q.1) (λ j. (f j, e j)) i.5 in (
-      more_settled c.args.taker.now c.loop-end.taker c.settle.new.taker (map value yielded) (value end) i.0 c.settle.ensures.settled ∙ ap (with_settled c.args.taker.now) (sym (map-append value yielded (end ∷ []))),
+      more_settled c.args.taker.now c.loop-end.taker c.settle.new.taker (map value yielded) (value end) i.0 c.settle.ensures.settled ∙
+          ap (with_settled c.args.taker.now) (sym (map-append value yielded (end ∷ []))),
       append_assoc yielded (end ∷ []) c.next.new.self.rest.items ∙ ap (λ l. yielded ++ l) (sym e) ∙ i.1,
       search rules,
       i.3,
@@ -89,7 +91,7 @@ pub returns-clause-settled : goal.returns-clause-settled
 returns-clause-settled g c =
     let i = c.loop-end.invariant in
     let len : c.loop-end.end-iterator.rest.len ≡ 0 = search rules in
-    let e = no_items c.loop-end.end-iterator.rest.items (i.2 ∙ len) in
+    let e = nil_of_length c.loop-end.end-iterator.rest.items (i.2 ∙ len) in
     let all : c.loop-end.yielded ≡ c.args.ended.items = sym (append-nil c.loop-end.yielded) ∙ ap (λ l. c.loop-end.yielded ++ l) (sym e) ∙ i.1 in
     i.0 ∙ ap (λ l. with_settled c.args.taker.now (map value l)) all
 
@@ -97,7 +99,7 @@ pub returns-clause-received : goal.returns-clause-received
 returns-clause-received g c =
     let i = c.loop-end.invariant in
     let len : c.loop-end.end-iterator.rest.len ≡ 0 = search rules in
-    let e = no_items c.loop-end.end-iterator.rest.items (i.2 ∙ len) in
+    let e = nil_of_length c.loop-end.end-iterator.rest.items (i.2 ∙ len) in
     let f = no_first OnOne c.loop-end.senders.rest.items c.loop-end.end-iterator.rest.items i.5 e in
     let ends : c.loop-end.yielded ≡ c.args.ended.items = sym (append-nil c.loop-end.yielded) ∙ ap (λ l. c.loop-end.yielded ++ l) (sym e) ∙ i.1 in
     let senders : i.4.0 ≡ c.args.senders.items = sym (append-nil i.4.0) ∙ ap (λ l. i.4.0 ++ l) (sym f) ∙ i.4.1 in

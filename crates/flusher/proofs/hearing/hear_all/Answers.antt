@@ -3,12 +3,13 @@ use Rattle.std.proofs.lemmas.List.{take_all}
 use Rattle.std.specs.Prelude.{All}
 use Rattle.std.specs.declared.alloc.Global.{Global}
 use Rattle.std.proofs.lemmas.List.Elements.{All-push}
+use Rattle.base.proofs.Lists.{take_one}
 use Rattle.centre_core.specs.Asked.{Asked}
 use Rattle.answers.specs.Views.{received_of}
 use Rattle.flusher.specs.declared.answer.Answer.{Answer}
 use Rattle.flusher.specs.Heard.{AreHeard, heard}
 use Rattle.flusher.specs.Submitted.{HasShortAnswer}
-use Rattle.flusher.proofs.Together.{heard_more, all_heard, take_one}
+use Rattle.flusher.proofs.Together.{heard_more, all_heard}
 use Rattle.flusher.proofs.hearing.hear_all.Goals as goal
 
 pub loop-k-preserved : goal.loop-k-preserved
@@ -26,6 +27,10 @@ loop-k-preserved g c =
       heard = subst (λ (q : List (Asked Global) × List (Answer g.row.J.Denot)). AreHeard base q.0 old new q.1) (λ j. (sym one j, sym more j))
           (heard_more base (take k c.args.commands.now) command old mid new c.loop-k.answers.items c.hear-answer.result i.heard c.hear-answer.ensures.heard);
       within = c.hear-answer.ensures.heard.reached.1;
+      all = record {
+        found = λ up. i.all.found (c.hear-answer.ensures.all.found up);
+        all = λ up. omega (arith, c.hear-answer.ensures.all.all up, i.all.all (c.hear-answer.ensures.all.found up));
+      };
       count = omega (arith, c.push_reserved.ensures.len, i.count);
       short = subst (All HasShortAnswer) (sym more) (All-push HasShortAnswer c.loop-k.answers.items c.hear-answer.result i.short c.hear-answer.ensures.short);
       room = c.push_reserved.ensures.capacity ∙ i.room;

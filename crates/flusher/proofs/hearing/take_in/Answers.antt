@@ -15,7 +15,7 @@ returns-clause-borne_out g c =
     let same : arc_value response.command ≡ c.args.command.now = sym c.deref.ensures ∙ c.same.ensures.0 c.if-not-same.false in
     let later = when c.is_within.result _ _ c.is_within.ensures c.if-not-is_within.false in
     let new : IsAlreadyReached base.count reached response.decision → ⊥ = λ h.
-    let is : IsTrue c.is_already_reached.result = c.is_already_reached.ensures.1 (subst (λ m. IsAlreadyReached m reached response.decision) (sym c.requires.base) h) in
+    let is : IsTrue c.is_already_reached.result = c.is_already_reached.ensures.1 (subst (λ m. IsAlreadyReached m reached response.decision) (sym c.base-base.ensures) h) in
     true≢false (sym is ∙ c.if-is_already_reached.false) in
     subst (BearsOutAnswer base c.args.command.now seen reached c.follow.new.self) (sym c.answer_by.ensures)
     (bears_by _ base c.args.command.now (arc_value response.command) seen reached response.published c.follow.new.self response.decision same later c.follow.ensures c.response.invariant.1 new)
@@ -29,10 +29,12 @@ returns-clause-reached g c =
     let same : arc_value response.command ≡ c.args.command.now = sym c.deref.ensures ∙ c.same.ensures.0 c.if-not-same.false in
     let later = when c.is_within.result _ _ c.is_within.ensures c.if-not-is_within.false in
     let new : IsAlreadyReached base.count reached response.decision → ⊥ = λ h.
-    let is : IsTrue c.is_already_reached.result = c.is_already_reached.ensures.1 (subst (λ m. IsAlreadyReached m reached response.decision) (sym c.requires.base) h) in
+    let is : IsTrue c.is_already_reached.result = c.is_already_reached.ensures.1 (subst (λ m. IsAlreadyReached m reached response.decision) (sym c.base-base.ensures) h) in
     true≢false (sym is ∙ c.if-is_already_reached.false) in
     subst (HasReached base reached c.reached_by.result c.follow.new.self) (sym c.answer_by.ensures)
-    (reaches_by _ base c.args.command.now (arc_value response.command) c.args.base reached c.reached_by.result seen response.published c.follow.new.self response.decision c.requires.base c.reached_by.ensures same c.follow.ensures c.response.invariant.1 new c.requires.within later)
+    (reaches_by _ base c.args.command.now (arc_value response.command) c.base-base.result reached c.reached_by.result seen response.published
+    c.follow.new.self response.decision c.base-base.ensures c.reached_by.ensures same c.follow.ensures c.response.invariant.1 new c.requires.within
+    later)
 
 pub returns-clause-short : goal.returns-clause-short
 returns-clause-short g c =

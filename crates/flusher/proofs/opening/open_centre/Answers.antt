@@ -13,6 +13,6 @@ returns-clause-settled g c =
       count = e.ends.count;
       published = e.publisher.0;
       durable = λ j. e.publisher.1 j ++ commands_in (b.unpublished.0 j);
-      store = ap store_of c.new.ensures;
+      store = ap store_of c.new.ensures.store;
       ended = b.ended;
     }) (nothing_sent _ _ _ e.ends.each) c.requires.centre.1

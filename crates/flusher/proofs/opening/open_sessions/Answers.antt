@@ -3,11 +3,12 @@ use Rattle.std.specs.declared.alloc.Global.{Global}
 use Rattle.centre_core.specs.Asked.{Asked}
 use Rattle.std.specs.Prelude.{All, vec_len}
 use Rattle.std.proofs.lemmas.List.Elements.{All-nil, All-push, All-same}
+use Rattle.base.proofs.Lists.{fewer_before}
 use Rattle.station_queue.specs.Ends.{Sending}
 use Rattle.station_queue.specs.Entries.{share_of}
 use Rattle.flusher.specs.declared.session.Session.{Session}
 use Rattle.flusher.specs.Opened.{IsNewSession}
-use Rattle.flusher.proofs.Beginning.{all_but_last, no_sessions, one_more_session, this_station, within}
+use Rattle.flusher.proofs.Beginning.{all_but_last, no_sessions, one_more_session, this_station}
 use Rattle.flusher.proofs.opening.open_sessions.Goals as goal
 
 pub loop-sender-init : goal.loop-sender-init
@@ -31,7 +32,7 @@ pub unreachable-requires : goal.unreachable-requires
 unreachable-requires g c =
     let i = c.loop-sender.invariant in
     let split = subst (λ l. c.loop-sender.yielded ++ l ≡ c.args.stations.items) c.in-Some.ensures.steps.0 i.in_turn in
-    let few = within c.loop-sender.yielded c.in-Some.sender c.next.new.self.rest.items c.args.stations.items split in
+    let few = fewer_before c.loop-sender.yielded c.in-Some.sender c.next.new.self.rest.items c.args.stations.items split in
     omega (arith, few, i.viewers, c.in_default.ensures.cases.0, c.loop-sender.viewers.ok.0)
 
 pub open_session-requires-clause-none_sent : goal.open_session-requires-clause-none_sent
@@ -48,14 +49,14 @@ pub push_reserved-requires : goal.push_reserved-requires
 push_reserved-requires g c =
     let i = c.loop-sender.invariant in
     let split = subst (λ l. c.loop-sender.yielded ++ l ≡ c.args.stations.items) c.in-Some.ensures.steps.0 i.in_turn in
-    let few = within c.loop-sender.yielded c.in-Some.sender c.next.new.self.rest.items c.args.stations.items split in
+    let few = fewer_before c.loop-sender.yielded c.in-Some.sender c.next.new.self.rest.items c.args.stations.items split in
     omega (arith, few, i.count, i.room, c.loop-sender.senders.ok.0)
 
 pub push_reserved-requires-in-loop-sender : goal.push_reserved-requires-in-loop-sender
 push_reserved-requires-in-loop-sender g c =
     let i = c.loop-sender.invariant in
     let split = subst (λ l. c.loop-sender.yielded ++ l ≡ c.args.stations.items) c.in-Some.ensures.steps.0 i.in_turn in
-    let few = within c.loop-sender.yielded c.in-Some.sender c.next.new.self.rest.items c.args.stations.items split in
+    let few = fewer_before c.loop-sender.yielded c.in-Some.sender c.next.new.self.rest.items c.args.stations.items split in
     omega (arith, few, i.count, i.made.count, i.also_room, c.loop-sender.sessions.ok.0)
 
 pub loop-sender-preserved : goal.loop-sender-preserved
@@ -85,7 +86,8 @@ loop-sender-preserved g c =
       none_seen = viewers.0;
       room = c.push_reserved.ensures.capacity ∙ i.room;
       also_room = c.push_reserved-in-loop-sender.ensures.capacity ∙ i.also_room;
-      shares = All-same (λ (s : Session g.row.J.Denot). s.share ≡ c.share_of-share.result) _ _ also_more (All-push (λ (s : Session g.row.J.Denot). s.share ≡ c.share_of-share.result) sessions session i.shares c.in_ok-answers.ensures.share);
+      shares = All-same (λ (s : Session g.row.J.Denot). s.share ≡ c.share_of-share.result) _ _ also_more
+          (All-push (λ (s : Session g.row.J.Denot). s.share ≡ c.share_of-share.result) sessions session i.shares c.in_ok-answers.ensures.share);
       made = one_more_session q senders c.push_reserved.new.self.items sessions c.push_reserved-in-loop-sender.new.self.items answers session more also_more i.made new;
     }
 

@@ -9,6 +9,7 @@ invariant-loop-command g l =
     IsHistory g.J.Centre.base (l.publisher.appended ++ commands_in l.unpublished.items)
     × (l.publisher.appended ++ commands_in l.unpublished.items ≡ l.initial.publisher.appended ++ commands_in l.initial.unpublished.items)
     × (l.publisher.published ≡ l.initial.publisher.published)
+    × (l.publisher.refusals ≡ l.initial.publisher.refusals)
     × (length l.initial.publisher.appended ≤ length l.publisher.appended)
     × (deque_capacity l.unpublished ≡ deque_capacity l.initial.unpublished)
 

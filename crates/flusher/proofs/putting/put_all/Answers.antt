@@ -1,6 +1,7 @@
 use Rattle.std.proofs.Common.{take, ◌∙◌, sym, subst}
+use Rattle.base.proofs.Lists.{take_one}
 use Rattle.flusher.specs.Heard.{ArePut}
-use Rattle.flusher.proofs.Together.{put_more, take_one}
+use Rattle.flusher.proofs.Together.{put_more}
 use Rattle.flusher.proofs.putting.put_all.Goals as goal
 
 pub loop-k-preserved : goal.loop-k-preserved

@@ -16,7 +16,8 @@ pub loop-command-preserved : goal.loop-command-preserved
 loop-command-preserved g c =
     let lt : c.loop-command.command-index < length c.args.commands.now = omega (arith, c.loop-command-test.true) in
     record {
-      items = one_more c.args.commands.now c.loop-command.command-index c.command-item.result lt c.command-item.is c.args.out.now.items c.loop-command.out.items c.add_command.new.self.items c.loop-command.invariant.items c.add_command.ensures.items;
+      items = one_more c.args.commands.now c.loop-command.command-index c.command-item.result lt c.command-item.is c.args.out.now.items
+          c.loop-command.out.items c.add_command.new.self.items c.loop-command.invariant.items c.add_command.ensures.items;
       capacity = omega (arith, c.add_command.ensures.capacity, c.loop-command.invariant.capacity);
       are_commands = one_more_is c.args.commands.now c.loop-command.command-index c.command-item.result lt c.command-item.is c.loop-command.invariant.are_commands c.add_command.ensures.is_command;
     }

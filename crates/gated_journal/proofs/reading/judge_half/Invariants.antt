@@ -1,7 +1,6 @@
-use Rattle.std.proofs.Common.{◌≡◌, ◌≤◌, ◌<◌, ◌-◌, List}
+use Rattle.std.proofs.Common.{◌≡◌, ◌≤◌, ◌<◌, ◌+◌, ◌-◌, length, List}
 use Rattle.sector_disk.specs.Disk.{View}
-use Rattle.sector_disk.specs.Reading.{before_reads}
-use Rattle.sector_disk.specs.Run.{HasOnlyRead}
+use Rattle.sector_disk.specs.Effects.{OnlyReads}
 use Rattle.gated_journal.specs.Half.{Entry, half_of, with_prefix}
 use Rattle.gated_journal.specs.Settled.{IsCounted}
 use Rattle.gated_journal.specs.Inside.Room.{capacity}
@@ -14,14 +13,15 @@ invariant-loop-count g l =
     record {
       end : l.rest.end ≡ l.place.end;
       form : l.rest.form ≡ l.place.form;
+      up : l.place.next ≤ l.rest.next;
       within : l.rest.next < l.rest.end;
       counts : IsCounted l.rest;
-      sectors : now.sectors ≡ old.sectors;
       capacity : capacity l.initial.buffer ≤ capacity l.buffer;
-      later : old.failures ≤ now.failures;
-      only_read : old.honest → HasOnlyRead old now;
-      only_reads : before_reads now.calls ≡ before_reads old.calls;
-      so_far : old.honest → (prefix : List (Entry g.row.A.Denot)) × (with_prefix prefix (half_of l.rest.form l.rest.count old.reads l.rest.next l.rest.end) ≡ half_of l.place.form l.place.count old.reads l.place.next l.place.end);
+      reads : OnlyReads old now ⊥;
+      calls : length now.calls + l.place.next ≡ length old.calls + l.rest.next;
+      so_far : old.honest → (prefix : List (Entry g.row.A.Denot)) ×
+          (with_prefix prefix (half_of l.rest.form l.rest.count old.reads l.rest.next l.rest.end) ≡ half_of l.place.form l.place.count old.reads
+          l.place.next l.place.end);
     }
 
 abbrev pub decreases-loop-count : goal.decreases-loop-count

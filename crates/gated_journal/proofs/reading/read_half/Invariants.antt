@@ -1,7 +1,6 @@
 use Rattle.std.proofs.Common.{◌≡◌, ◌≤◌, ◌<◌, ◌-◌}
 use Rattle.sector_disk.specs.Disk.{View}
-use Rattle.sector_disk.specs.Reading.{before_reads}
-use Rattle.sector_disk.specs.Run.{HasOnlyRead}
+use Rattle.sector_disk.specs.Effects.{OnlyReads}
 use Rattle.gated_journal.specs.Half.{counted, half_of, with_prefix}
 use Rattle.gated_journal.specs.Reading.{entries_view}
 use Rattle.gated_journal.specs.Settled.{IsCounted}
@@ -20,12 +19,10 @@ invariant-loop-entries g l =
       within : l.rest.next < l.rest.end;
       counts : IsCounted l.rest;
       counted : l.rest.count ≡ counted l.place.count (entries_view l.entries.items);
-      sectors : now.sectors ≡ old.sectors;
       capacity : capacity l.initial.buffer ≤ capacity l.buffer;
-      later : old.failures ≤ now.failures;
-      only_read : old.honest → HasOnlyRead old now;
-      only_reads : before_reads now.calls ≡ before_reads old.calls;
-      so_far : old.honest → with_prefix (entries_view l.entries.items) (half_of l.rest.form l.rest.count old.reads l.rest.next l.rest.end) ≡ half_of l.place.form l.place.count old.reads l.place.next l.place.end;
+      reads : OnlyReads old now ⊥;
+      so_far : old.honest → with_prefix (entries_view l.entries.items) (half_of l.rest.form l.rest.count old.reads l.rest.next l.rest.end) ≡ half_of
+          l.place.form l.place.count old.reads l.place.next l.place.end;
     }
 
 abbrev pub decreases-loop-entries : goal.decreases-loop-entries

@@ -17,5 +17,6 @@ invariant-loop-k g l =
       later : old.failures ≤ now.failures;
       only_read : old.honest → HasOnlyRead old now;
       only_reads : before_reads now.calls ≡ before_reads old.calls;
+      calls : length now.calls + l.from ≡ length old.calls + l.k;
       bytes : old.honest → l.initial.buffer.items ≡ data_from old.reads l.at l.from → l.buffer.items ≡ data_from old.reads l.at l.k;
     }

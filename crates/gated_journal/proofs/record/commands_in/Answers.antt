@@ -19,7 +19,9 @@ pub loop-preserved : goal.loop-preserved
 loop-preserved g c =
     let left : c.args.count - c.loop.counter ≡ suc (c.args.count - (c.loop.counter + 1)) = omega (arith, c.loop-test.true) in
     let read : first_command c.loop.rest.now ≡ Some (c.in-Some.command, c.in-Some.after.now) = sym c.in_ok-command.ensures.exact ∙ ap (option_map (λ x. (x.0, x.1.now))) c.in-Some.is in
-    rw c.in_ok-push.ensures.items (commands_more c.loop.commands.items (c.args.count - (c.loop.counter + 1)) c.loop.rest.now c.in-Some.after.now c.in-Some.command (commands_in c.args.count c.args.bytes.now) read (rw left at c.loop.invariant))
+    rw c.in_ok-push.ensures.items
+    (commands_more c.loop.commands.items (c.args.count - (c.loop.counter + 1)) c.loop.rest.now c.in-Some.after.now c.in-Some.command
+    (commands_in c.args.count c.args.bytes.now) read (rw left at c.loop.invariant))
 
 pub returns-then-is_empty : goal.returns-then-is_empty
 returns-then-is_empty g c =

@@ -20,6 +20,7 @@ returns g c = record {
         ∙ odd_digits c.args.digits.now c.loop-i.bytes.items c.loop-i.i w.digit_of.result (omega (arith, w.if-digits-eq1)) (omega (arith, c.loop-i-test.false, w.if-digits-eq1)) c.loop-i.invariant
         w.digit_of.ensures.small w.digit_of.ensures.value
     | else-digits-eq1 w ↦
-        ap (λ b. bits_of b.items) w.bytes-is ∙ even_digits c.args.digits.now c.loop-i.bytes.items c.loop-i.i (omega (arith, w.if-digits-eq1)) (omega (arith, c.loop-i-test.false, w.if-digits-eq1)) c.loop-i.invariant
+        ap (λ b. bits_of b.items) w.bytes-is ∙ even_digits c.args.digits.now c.loop-i.bytes.items c.loop-i.i (omega (arith, w.if-digits-eq1))
+        (omega (arith, c.loop-i-test.false, w.if-digits-eq1)) c.loop-i.invariant
   ];
 }

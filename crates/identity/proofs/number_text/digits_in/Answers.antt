@@ -18,5 +18,6 @@ loop-byte-preserved c =
     let text = c.args.text.now in let i = c.loop-byte.byte-index in
     let inside : i < length text = omega (arith, c.loop-byte-test.true) in
     let more = digit_more text i inside (search rules) in
-    let is : 10 * c.loop-byte.value + c.digit_of-digit.result ≡ value (take (i + 1) text) = omega (arith, more, c.loop-byte.invariant.0, c.digit_of-digit.ensures.value (omega (arith, c.if-digit-gt9.false))) in
+    let is : 10 * c.loop-byte.value + c.digit_of-digit.result ≡ value (take (i + 1) text) =
+    omega (arith, more, c.loop-byte.invariant.0, c.digit_of-digit.ensures.value (omega (arith, c.if-digit-gt9.false))) in
     (is, all_more text i c.loop-byte.invariant.1 inside (search rules))

@@ -22,7 +22,8 @@ loop-at-preserved c =
     let text = c.args.text.now in let i = c.loop-at.at in
     let inside : i < length text = omega (arith, c.loop-at-test.true) in
     let more = digit_more text i inside (search rules) in
-    let is : 10 * c.loop-at.number + c.digit_of-digit.result ≡ value (take (i + 1) text) = omega (arith, more, c.loop-at.invariant.0, c.digit_of-digit.ensures.value (omega (arith, c.if-digit-gt9.false))) in
+    let is : 10 * c.loop-at.number + c.digit_of-digit.result ≡ value (take (i + 1) text) =
+    omega (arith, more, c.loop-at.invariant.0, c.digit_of-digit.ensures.value (omega (arith, c.if-digit-gt9.false))) in
     let all : list_all is_ascii_digit (take (i + 1) text) ≡ true = all_more text i c.loop-at.invariant.1 inside (search rules) in
     let low : i + 1 ≤ length text = omega (arith, inside) in
     (is, all, low)

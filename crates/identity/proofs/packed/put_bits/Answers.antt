@@ -15,7 +15,8 @@ loop-done-preserved c =
     let fits : c.loop-done.done + c.min-next.result ≤ c.args.width = omega (arith, c.min-next.ensures, c.loop-done-test.true) in (
       fits,
       c.put_piece.auto.bytes ∙ c.loop-done.invariant.1,
-      put_next c.loop-done.bytes prefix c.args.len c.args.width c.args.value c.loop-done.done is_len room c.loop-done.invariant.0 c.loop-done.invariant.2 c.put_piece.new.bytes c.min-next.result fits c.put_piece.ensures,
+      put_next c.loop-done.bytes prefix c.args.len c.args.width c.args.value c.loop-done.done is_len room c.loop-done.invariant.0
+          c.loop-done.invariant.2 c.put_piece.new.bytes c.min-next.result fits c.put_piece.ensures,
     )
 
 pub returns : goal.returns

@@ -14,6 +14,7 @@ loop-place-preserved c =
     let lt : place < length list = omega (arith, c.loop-place-test.true, c.loop-place.invariant.same) in
     record {
       same = length-set list place a ∙ c.loop-place.invariant.same;
-      taken = put_one list gs c.args.itsi place a lt c.loop-place.invariant.taken (c.in-Some.ensures.value ∙ ap (λ (l : List Group). slice_get l 0) c.loop-place.invariant.rest) c.in-Some.ensures.radio;
+      taken = put_one list gs c.args.itsi place a lt c.loop-place.invariant.taken
+          (c.in-Some.ensures.value ∙ ap (λ (l : List Group). slice_get l 0) c.loop-place.invariant.rest) c.in-Some.ensures.radio;
       rest = c.next.ensures.rest ∙ ap (λ (l : List Group). drop 1 l) c.loop-place.invariant.rest ∙ drop-drop 1 place gs;
     }

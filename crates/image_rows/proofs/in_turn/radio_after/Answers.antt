@@ -6,4 +6,5 @@ placed_radio-requires g c = few_groups c.args.register.now c.groups.result.now _
 
 pub returns-in-Some : goal.returns-in-Some
 returns-in-Some g c =
-    radio_found c.args.register.now c.registry.result.now c.groups.result.now c.args.after _ _ c.attachments-groups.result.now c.placed_radio.result c.placed_radio.ensures.below c.registry.ensures c.groups.ensures c.in-Some.ensures c.attachments-groups.ensures c.placed_radio.ensures.row
+    radio_found c.args.register.now c.registry.result.now c.groups.result.now c.args.after _ _ c.attachments-groups.result.now c.placed_radio.result
+    c.placed_radio.ensures.below c.registry.ensures c.groups.ensures c.in-Some.ensures c.attachments-groups.ensures c.placed_radio.ensures.row

@@ -16,7 +16,8 @@ returns-in-Some-Rule g c =
 pub returns-in-Some-Radio : goal.returns-in-Some-Radio
 returns-in-Some-Radio g c =
     let is : c.args.after ≡ Some (place.Radio c.in-Some-Radio.itsi) = search rules in
-    stated_at c.args.epoch c.args.register.now c.args.after (place.Radio c.in-Some-Radio.itsi) c.radio_after.result c.registers.ensures.ranges is (omega (arith, c.number-number.ensures.below, c.number-number.ensures.value)) c.radio_after.ensures
+    stated_at c.args.epoch c.args.register.now c.args.after (place.Radio c.in-Some-Radio.itsi) c.radio_after.result c.registers.ensures.ranges is
+    (omega (arith, c.number-number.ensures.below, c.number-number.ensures.value)) c.radio_after.ensures
 
 pub returns-in-Some-Mail : goal.returns-in-Some-Mail
 returns-in-Some-Mail g c =

@@ -6,7 +6,8 @@ use Rattle.image_rows.proofs.pdu.is_of_type.Goals.{then-len-octets-via-then-len-
 pub returns : goal.returns
 returns c =
     c.are_octets_of.ensures
-    ∙ octets_state c.args.pdu.now c.args.kind c.args.octets c.args.reference c.octet-first.result c.octet-second.result c.octet-last.result c.octet-first.type_inv c.octet-second.type_inv c.octet-last.type_inv
+    ∙ octets_state c.args.pdu.now c.args.kind c.args.octets c.args.reference c.octet-first.result c.octet-second.result c.octet-last.result
+    c.octet-first.type_inv c.octet-second.type_inv c.octet-last.type_inv
     (omega (arith, c.if-len-octets.false, c.len-len.ensures)) (omega (arith, c.if-len-gt-MOST_BITS.false, c.len-len.ensures))
     c.octet-first.ensures c.octet-second.ensures c.octet-last.ensures
 

@@ -1,7 +1,7 @@
 use Rattle.std.proofs.Common.{◌≡◌, ◌∙◌, ◌-◌, ◌≤◌, length, true, false, Some, rules, arith, subst, sym}
 use Rattle.std.specs.Prelude.{slice_set}
+use Rattle.base.proofs.Results.{on_err}
 use Rattle.centre_core.specs.State.{State, LastAccepted}
-use Rattle.mailbox.proofs.Results.{known_err}
 use Rattle.image_rows.specs.Rows.{ServedRow}
 use Rattle.image_rows.specs.Loading.{put, served_may}
 use Rattle.image_rows.specs.Held.{IsOutcome}
@@ -18,7 +18,7 @@ pub returns-in_err-pdu-clause-memory : goal.returns-in_err-pdu-clause-memory
 returns-in_err-pdu-clause-memory g c =
     let x : LastAccepted = record { sequence = c.args.last.now.sequence; number = c.args.last.now.number; pdu = c.args.last.now.pdu } in
     let so : c.served_may.result ≡ true = search rules in
-    known_err c.from_residual.result (some_last c.args.header.now c.args.parts.now c.args.station x (sym (c.served_may.ensures x.sequence x.pdu) ∙ so))
+    on_err c.from_residual.result (some_last c.args.header.now c.args.parts.now c.args.station x (sym (c.served_may.ensures x.sequence x.pdu) ∙ so))
 
 pub put_last-requires-clause-some : goal.put_last-requires-clause-some
 put_last-requires-clause-some g c =

@@ -17,7 +17,10 @@ returns-in-None-clause-ok g c = came_first c.args.first.now c.args.parts.now (ro
 
 pub returns-in-Some-clause-ok : goal.returns-in-Some-clause-ok
 returns-in-Some-clause-ok g c =
-    IfOk-weaker c.put.result (λ (t : Bool). IsOutcome (put c.in-Some.header c.args.parts.now (row_view c.args.row)) c.args.parts.now t c.put.new.parts) (λ (t : Bool). IsOutcome (row_taken (loading c.args.first.now c.args.parts.now) (row_view c.args.row)) (loading c.args.first.now c.args.parts.now) t (loading c.args.first.now c.put.new.parts))
+    IfOk-weaker c.put.result
+    (λ (t : Bool). IsOutcome (put c.in-Some.header c.args.parts.now (row_view c.args.row)) c.args.parts.now t c.put.new.parts)
+    (λ (t : Bool). IsOutcome (row_taken (loading c.args.first.now c.args.parts.now) (row_view c.args.row))
+    (loading c.args.first.now c.args.parts.now) t (loading c.args.first.now c.put.new.parts))
     (λ t came. came_later c.args.first.now c.in-Some.header c.args.parts.now c.put.new.parts (row_view c.args.row) t c.in-Some.is came) c.put.ensures.ok
 
 pub returns-in-Some-clause-memory : goal.returns-in-Some-clause-memory

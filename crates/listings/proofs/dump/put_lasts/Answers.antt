@@ -1,6 +1,6 @@
 use Rattle.std.proofs.Common.{◌≡◌, ◌+◌, ◌++◌, [], drop, refl, sym, ap, ◌∙◌, arith, append_assoc, drop_of_length-le}
 use Rattle.std.proofs.lemmas.List.{append-nil}
-use Rattle.mailbox.proofs.Results.{known_err}
+use Rattle.base.proofs.Results.{on_err}
 use Rattle.listings.specs.Inside.Dumping.{last_text, lasts_text}
 use Rattle.listings.proofs.Dumping.{lasts_left, one_last, no_last}
 use Rattle.listings.proofs.Listed.{prefix_with_more}
@@ -24,14 +24,16 @@ loop-at-preserved g c =
 pub returns-in_err-put_last-clause-err : goal.returns-in_err-put_last-clause-err
 returns-in_err-put_last-clause-err g c =
     let so = c.loop-at.invariant in
-    known_err c.from_residual.result (prefix_with_more c.args.out.now.items so.0 c.loop-at.out.items c.put_last.new.out.items so.1 c.in_err-put_last.ensures.err)
+    on_err c.from_residual.result (prefix_with_more c.args.out.now.items so.0 c.loop-at.out.items c.put_last.new.out.items so.1 c.in_err-put_last.ensures.err)
 
 pub returns-in_err-put_last-clause-full : goal.returns-in_err-put_last-clause-full
 returns-in_err-put_last-clause-full g c =
     let so = c.loop-at.invariant in
     let at = c.loop-at.at in
     let last = c.index-served-at.result in
-    known_err c.from_residual.result (no_last c.args.out.now.items c.loop-at.out.items so.0 (last_text (at + 1) last) (lasts_left c.args.served.now at) (lasts_left c.args.served.now (at + 1)) (lasts_text 1 c.args.served.now) _ _ _ _
+    on_err c.from_residual.result
+    (no_last c.args.out.now.items c.loop-at.out.items so.0 (last_text (at + 1) last) (lasts_left c.args.served.now at)
+    (lasts_left c.args.served.now (at + 1)) (lasts_text 1 c.args.served.now) _ _ _ _
     so.1 so.2 (one_last c.args.served.now at last c.loop-at-test.true c.index-served-at.is) c.args.out.now.ok.0 c.loop-at.out.ok.0 so.3 c.in_err-put_last.ensures.full)
 
 pub returns-clause-ok : goal.returns-clause-ok

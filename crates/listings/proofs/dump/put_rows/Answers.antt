@@ -1,7 +1,7 @@
 use Rattle.std.proofs.Common.{◌+◌, ◌++◌, [], ◌∷◌, Some, refl, ap, ◌∙◌, sym, arith, append_assoc}
 use Rattle.std.specs.List.{flat_map}
 use Rattle.std.proofs.lemmas.List.{append-nil}
-use Rattle.mailbox.proofs.Results.{known_err}
+use Rattle.base.proofs.Results.{on_err}
 use Rattle.listings.specs.Entries.{entries_of}
 use Rattle.listings.specs.Inside.Walking.{entry_of, place_of}
 use Rattle.listings.specs.Dump.{dumped_line}
@@ -32,12 +32,15 @@ returns-in_default-clause-ok g c =
     let s = c.args.register.now in
     let t = c.args.table.now in
     let so = c.loop.invariant in
-    all_put (dumped_line c.args.register.now.groups) c.args.out.now.items c.loop.out.items so.0 (left s t c.loop.counter c.loop.after) (entries_of s t) so.1 (none_left s t c.loop.counter c.loop.after c.in_default.ensures) so.2
+    all_put (dumped_line c.args.register.now.groups) c.args.out.now.items c.loop.out.items so.0 (left s t c.loop.counter c.loop.after)
+    (entries_of s t) so.1 (none_left s t c.loop.counter c.loop.after c.in_default.ensures) so.2
 
 pub returns-in_err-put_row-clause-err : goal.returns-in_err-put_row-clause-err
 returns-in_err-put_row-clause-err g c =
     let so = c.loop.invariant in
-    known_err c.from_residual.result (prefix_with_more c.args.out.now.items (flat_map (dumped_line c.args.register.now.groups) so.0) c.loop.out.items c.put_row.new.out.items so.1 c.in_err-put_row.ensures.err)
+    on_err c.from_residual.result
+    (prefix_with_more c.args.out.now.items (flat_map (dumped_line c.args.register.now.groups) so.0) c.loop.out.items c.put_row.new.out.items so.1
+    c.in_err-put_row.ensures.err)
 
 pub returns-in_err-put_row-clause-full : goal.returns-in_err-put_row-clause-full
 returns-in_err-put_row-clause-full g c =
@@ -46,7 +49,9 @@ returns-in_err-put_row-clause-full g c =
     let so = c.loop.invariant in
     let e = entry_of c.in-Some.entry in
     let next = one_left s t c.loop.counter c.loop.after e (place_of e) c.loop-test.true c.in-Some.ensures refl in
-    known_err c.from_residual.result (none_for_all (dumped_line c.args.register.now.groups) c.args.out.now.items c.loop.out.items so.0 (left s t (c.loop.counter + 1) (Some (place_of e))) (left s t c.loop.counter c.loop.after) (entries_of s t) e _ _ _ _ so.1 next so.2
+    on_err c.from_residual.result
+    (none_for_all (dumped_line c.args.register.now.groups) c.args.out.now.items c.loop.out.items so.0
+    (left s t (c.loop.counter + 1) (Some (place_of e))) (left s t c.loop.counter c.loop.after) (entries_of s t) e _ _ _ _ so.1 next so.2
     c.args.out.now.ok.0 c.loop.out.ok.0 so.3 c.in_err-put_row.ensures.full)
 
 pub returns-clause-ok : goal.returns-clause-ok
@@ -54,4 +59,5 @@ returns-clause-ok g c =
     let s = c.args.register.now in
     let t = c.args.table.now in
     let so = c.loop.invariant in
-    all_put (dumped_line c.args.register.now.groups) c.args.out.now.items c.loop.out.items so.0 (left s t c.loop.counter c.loop.after) (entries_of s t) so.1 (out_of_turns s t c.loop.counter c.loop.after c.loop-test.false) so.2
+    all_put (dumped_line c.args.register.now.groups) c.args.out.now.items c.loop.out.items so.0 (left s t c.loop.counter c.loop.after)
+    (entries_of s t) so.1 (out_of_turns s t c.loop.counter c.loop.after c.loop-test.false) so.2

@@ -1,5 +1,6 @@
 use Rattle.std.proofs.Common.{◌≡◌, ◌+◌, ◌<◌, ◌++◌, OnOk, OnErr, length, vec_len, vec_capacity, rules, arith, subst, ap, ◌∙◌, length-append}
-use Rattle.listings.proofs.Used.{used_parts, parts_fit, then_ok}
+use Rattle.base.proofs.Results.{then_on_ok}
+use Rattle.listings.proofs.Used.{used_parts, parts_fit}
 use Rattle.listings.proofs.room.put_used.Goals as goal
 
 pub returns-clause-ok : goal.returns-clause-ok
@@ -13,7 +14,7 @@ returns-clause-full g c = subst (λ t. OnErr c.put_parts.result (vec_capacity c.
     (search rules) (search rules) (search rules) (search rules) (search rules) (search rules) (search rules) (search rules)) c.put_parts.ensures.full
 
 pub returns-clause-fits : goal.returns-clause-fits
-returns-clause-fits g c = then_ok c.put_parts.result c.put_parts.ensures.ok (λ put.
+returns-clause-fits g c = then_on_ok c.put_parts.result c.put_parts.ensures.ok (λ put.
     let short = parts_fit c.from.result c.from-2.result c.from-3.result c.from-4.result c.len.result c.from-5.result c.used_stations.result c.from-6.result
     c.from.type_inv c.from-2.type_inv c.from-3.type_inv c.from-4.type_inv c.len.type_inv c.from-5.type_inv c.used_stations.type_inv c.from-6.type_inv in
     let grown = ap length put ∙ length-append c.args.out.now.items _ in

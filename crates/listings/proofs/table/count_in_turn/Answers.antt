@@ -8,7 +8,8 @@ loop-passed-init g c = omega (arith, ap length (all_left c.args.register.now c.a
 
 pub loop-passed-preserved : goal.loop-passed-preserved
 loop-passed-preserved g c =
-    let next = ap length (one_left c.args.register.now c.args.table.now c.loop-passed.passed c.loop-passed.after (entry_of c.in-Some.entry) c.place.result c.loop-passed-test.true c.in-Some.ensures c.place.ensures) in
+    let next = ap length (one_left c.args.register.now c.args.table.now c.loop-passed.passed c.loop-passed.after (entry_of c.in-Some.entry)
+    c.place.result c.loop-passed-test.true c.in-Some.ensures c.place.ensures) in
     omega (arith, next, c.loop-passed.invariant)
 
 pub returns-in_default : goal.returns-in_default

@@ -1,7 +1,7 @@
 use Rattle.std.proofs.Common.{◌+◌, ◌++◌, [], ◌∷◌, Some, refl, ap, ◌∙◌, sym, arith, append_assoc}
 use Rattle.std.specs.List.{flat_map}
 use Rattle.std.proofs.lemmas.List.{append-nil}
-use Rattle.mailbox.proofs.Results.{known_err}
+use Rattle.base.proofs.Results.{on_err}
 use Rattle.listings.specs.Entries.{entries_of}
 use Rattle.listings.specs.Inside.Walking.{entry_of, place_of}
 use Rattle.listings.specs.Lines.{entry_line}
@@ -37,7 +37,7 @@ returns-in_default-clause-ok g c =
 pub returns-in_err-put_entry-clause-err : goal.returns-in_err-put_entry-clause-err
 returns-in_err-put_entry-clause-err g c =
     let so = c.loop.invariant in
-    known_err c.from_residual.result (prefix_with_more c.args.out.now.items (flat_map entry_line so.0) c.loop.out.items c.put_entry.new.out.items so.1 c.in_err-put_entry.ensures.err)
+    on_err c.from_residual.result (prefix_with_more c.args.out.now.items (flat_map entry_line so.0) c.loop.out.items c.put_entry.new.out.items so.1 c.in_err-put_entry.ensures.err)
 
 pub returns-in_err-put_entry-clause-full : goal.returns-in_err-put_entry-clause-full
 returns-in_err-put_entry-clause-full g c =
@@ -46,7 +46,9 @@ returns-in_err-put_entry-clause-full g c =
     let so = c.loop.invariant in
     let e = entry_of c.in-Some.entry in
     let next = one_left s t c.loop.counter c.loop.after e (place_of e) c.loop-test.true c.in-Some.ensures refl in
-    known_err c.from_residual.result (none_for_all entry_line c.args.out.now.items c.loop.out.items so.0 (left s t (c.loop.counter + 1) (Some (place_of e))) (left s t c.loop.counter c.loop.after) (entries_of s t) e _ _ _ _ so.1 next so.2
+    on_err c.from_residual.result
+    (none_for_all entry_line c.args.out.now.items c.loop.out.items so.0 (left s t (c.loop.counter + 1) (Some (place_of e)))
+    (left s t c.loop.counter c.loop.after) (entries_of s t) e _ _ _ _ so.1 next so.2
     c.args.out.now.ok.0 c.loop.out.ok.0 so.3 c.in_err-put_entry.ensures.full)
 
 pub returns-clause-ok : goal.returns-clause-ok

@@ -11,4 +11,6 @@ returns-clause-left g c = filter_same _ (λ w. not (is_at c.args.key.now w)) _ (
 pub returns-clause-room : goal.returns-clause-room
 returns-clause-room g c =
     let left : c.retain.new.self.items ≡ filter (λ w. not (is_at c.args.key.now w)) c.args.items.now.items = returns-clause-left g c in
-    λ there. rw (c.retain.ensures.capacity) (room_left (is_at c.args.key.now) c.args.items.now.items c.args.items.now.len c.retain.new.self.len c.args.items.now.cap there c.args.items.now.ok.0 (c.retain.new.self.ok.0 ∙ ap length left) c.args.items.now.ok.1)
+    λ there. rw (c.retain.ensures.capacity)
+    (room_left (is_at c.args.key.now) c.args.items.now.items c.args.items.now.len c.retain.new.self.len c.args.items.now.cap there
+    c.args.items.now.ok.0 (c.retain.new.self.ok.0 ∙ ap length left) c.args.items.now.ok.1)

@@ -21,12 +21,15 @@ pub returns-in_err-add-clause-memory : goal.returns-in_err-add-clause-memory
 returns-in_err-add-clause-memory g c =
     let p = err_from_is_err_and c.from_residual-in_err-add.result c.from_residual-in_err-add.ensures.1 in
     let some = c.loop-test.true in
-    rw (p.1, p.2) (λ is. add_wants g.T.GroupText.group_at c.args.reader.now c.args.count c.loop.reader (c.in_ok-read.field-0, c.read.new.reader) (omega arith) c.loop.invariant.2 c.in_ok-read.ensures ∙ ap (λ (f : MmFault). Err f) (sym is))
+    rw (p.1, p.2) (λ is. add_wants g.T.GroupText.group_at c.args.reader.now c.args.count c.loop.reader (c.in_ok-read.field-0, c.read.new.reader)
+    (omega arith) c.loop.invariant.2 c.in_ok-read.ensures ∙ ap (λ (f : MmFault). Err f) (sym is))
 
 pub loop-preserved : goal.loop-preserved
 loop-preserved g c =
     let some = c.loop-test.true in (
-      rw c.in_ok-add.ensures.ok (goes_on g.T.GroupText.group_at c.loop.items c.args.count c.loop.counter c.loop.reader c.in_ok-read.field-0 c.read.new.reader c.loop-test.true c.in_ok-read.ensures ∙ c.loop.invariant.0),
+      rw c.in_ok-add.ensures.ok
+          (goes_on g.T.GroupText.group_at c.loop.items c.args.count c.loop.counter c.loop.reader c.in_ok-read.field-0 c.read.new.reader c.loop-test.true
+          c.in_ok-read.ensures ∙ c.loop.invariant.0),
       room_left 32 c.args.count c.loop.counter c.loop.items c.add.new.self c.in_ok-read.field-0 c.in_ok-add.ensures.ok c.loop-test.true c.loop.invariant.1,
       inr (add_wants g.T.GroupText.group_at c.args.reader.now c.args.count c.loop.reader (c.in_ok-read.field-0, c.read.new.reader) (omega arith) c.loop.invariant.2 c.in_ok-read.ensures),
     )

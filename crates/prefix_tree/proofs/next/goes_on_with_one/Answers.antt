@@ -1,9 +1,9 @@
 use Rattle.std.proofs.Common.{◌≡◌, ◌++◌, ◌∷◌, [], Bool, true, false, nat_lt, sym, ◌∙◌, arith}
 use Rattle.std.proofs.lemmas.Bool.Decides.{nat_tests}
 use Rattle.std.specs.Prelude.{IsTrue}
+use Rattle.base.proofs.Bools.{never as never_so}
 use Rattle.identity.specs.Path.{Path, begins}
 use Rattle.prefix_tree.proofs.Begins.{longer_side}
-use Rattle.prefix_tree.proofs.NodePlaces.{never_so}
 use Rattle.prefix_tree.proofs.VisitLaws.{one_side}
 use Rattle.prefix_tree.proofs.next.goes_on_with_one.Goals as goal
 

@@ -7,7 +7,9 @@ use Rattle.prefix_tree.proofs.path.begins.Goals as goal
 pub returns-then-len : goal.returns-then-len
 returns-then-len c =
     let le : length c.args.short.now ≤ length c.args.long.now = omega (arith, c.if-len.true, c.len.ensures.value, c.len-2.ensures.value) in
-    rw (c.len-then-len.ensures.value, c.len-then-len-2.ensures.value) (begins_numbers c.args.short.now c.args.long.now _ _ c.number-then-len.ensures.fits c.number.ensures.fits c.number-then-len.ensures.value c.number.ensures.value le)
+    rw (c.len-then-len.ensures.value, c.len-then-len-2.ensures.value)
+    (begins_numbers c.args.short.now c.args.long.now _ _ c.number-then-len.ensures.fits c.number.ensures.fits c.number-then-len.ensures.value
+    c.number.ensures.value le)
 
 pub returns-else-len : goal.returns-else-len
 returns-else-len c =

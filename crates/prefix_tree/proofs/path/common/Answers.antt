@@ -46,6 +46,7 @@ returns c =
     let i = c.loop-a.invariant in
     let is : common c.args.one.now c.args.other.now ≡ num c.loop-a.at c.loop-a.a = i.3 ∙ elim c.loop-a-test.branch [
       | then-loop-a-test+else-at-gt0 w ↦ none_left c.loop-a.at c.loop-a.a c.loop-a.b (omega (arith, w.if-at-gt0.false))
-      | else-loop-a-test w ↦ let same : c.loop-a.b ≡ c.loop-a.a = omega (arith, w.loop-a-test.false) in ap (λ n. common (num c.loop-a.at c.loop-a.a) (num c.loop-a.at n)) same ∙ common_self (num c.loop-a.at c.loop-a.a)
+      | else-loop-a-test w ↦ let same : c.loop-a.b ≡ c.loop-a.a = omega (arith, w.loop-a-test.false) in
+          ap (λ n. common (num c.loop-a.at c.loop-a.a) (num c.loop-a.at n)) same ∙ common_self (num c.loop-a.at c.loop-a.a)
     ] in
     c.of.ensures ∙ taken c.loop-a.at c.loop-a.a i.0 i.1 ∙ sym is

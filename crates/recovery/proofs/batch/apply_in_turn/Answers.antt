@@ -1,5 +1,5 @@
 use Rattle.std.proofs.Common.{◌<◌, length, arith}
-use Rattle.mailbox.proofs.Results.{known_err}
+use Rattle.base.proofs.Results.{on_err}
 use Rattle.recovery.proofs.Batches.{applied_one, stopped}
 use Rattle.recovery.proofs.batch.apply_in_turn.Goals as goal
 
@@ -8,7 +8,7 @@ returns-in_err-apply_one-clause-some g c =
     let i = c.loop-command.command-index in
     let lt : i < length c.args.commands.now = omega (arith, c.loop-command-test.true) in
     let same = c.in_err-apply_one.ensures.same in
-    known_err c.from_residual.result (stopped c.args.register.now c.loop-command.register c.apply_one.new.register c.args.commands.now i c.command-item.result
+    on_err c.from_residual.result (stopped c.args.register.now c.loop-command.register c.apply_one.new.register c.args.commands.now i c.command-item.result
     c.loop-command.outcomes.items c.apply_one.new.outcomes.items c.loop-command.accepted.items c.apply_one.new.accepted.items
     lt c.command-item.is c.loop-command.invariant.applied c.in_err-apply_one.ensures.memory same.0 same.1 same.2)
 

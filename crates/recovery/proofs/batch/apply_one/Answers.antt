@@ -18,5 +18,6 @@ returns-clause-accepted g c =
       | then-is_acceptance w ↦
           let pushed : w.push.new.self.items ≡ c.args.accepted.now.items ++ c.args.command ∷ [] = search rules in
           collected c.args.register.now c.args.command c.args.accepted.now.items c.if-is_acceptance.accepted.items (sym verdict ∙ w.if-is_acceptance.true) (ap (λ v. v.items) w.accepted-is ∙ pushed)
-      | else-is_acceptance w ↦ left_out c.args.register.now c.args.command c.args.accepted.now.items c.if-is_acceptance.accepted.items (sym verdict ∙ w.if-is_acceptance.false) (ap (λ v. v.items) w.accepted-is)
+      | else-is_acceptance w ↦ left_out c.args.register.now c.args.command c.args.accepted.now.items c.if-is_acceptance.accepted.items
+          (sym verdict ∙ w.if-is_acceptance.false) (ap (λ v. v.items) w.accepted-is)
     ]

@@ -20,17 +20,21 @@ returns-in_err-sync-clause-some_calls g c =
 pub returns-in_err-sync-clause-call : goal.returns-in_err-sync-clause-call
 returns-in_err-sync-clause-call g c honest =
     let syncs = c.in_err-sync.ensures.effect honest in
-    opens_not _ _ (record { honest = syncs.honest; left = after_sync (g.D.Disk.view c.args.disk.now) (g.D.Disk.view c.sync.new.self) (g.D.Disk.view c.sync.new.self) _ (g.met.D.Disk.sound c.args.disk.now honest) syncs })
+    opens_not _ _ (record {
+      honest = syncs.honest;
+      left = after_sync (g.D.Disk.view c.args.disk.now) (g.D.Disk.view c.sync.new.self)
+          (g.D.Disk.view c.sync.new.self) _ (g.met.D.Disk.sound c.args.disk.now honest) syncs;
+    })
 
 pub returns-clause-calls : goal.returns-clause-calls
 returns-clause-calls g c =
     let given : View = g.D.Disk.view c.args.disk.now in
-    if_ok c.check_sides.result (c.check_sides.ensures.only_reads ∙ ap before_reads c.in_ok-sync.ensures.called.made ∙ one_sync given.calls)
+    if_ok c.check_sides.result (c.check_sides.ensures.reads.disk.only_reads ∙ ap before_reads c.in_ok-sync.ensures.called.made ∙ one_sync given.calls)
 
 pub returns-clause-some_calls : goal.returns-clause-some_calls
 returns-clause-some_calls g c =
     let given : View = g.D.Disk.view c.args.disk.now in
-    if_err c.check_sides.result (λ fault. inl (c.check_sides.ensures.only_reads ∙ ap before_reads c.in_ok-sync.ensures.called.made ∙ one_sync given.calls))
+    if_err c.check_sides.result (λ fault. inl (c.check_sides.ensures.reads.disk.only_reads ∙ ap before_reads c.in_ok-sync.ensures.called.made ∙ one_sync given.calls))
 
 pub returns-clause-call : goal.returns-clause-call
 returns-clause-call g c honest =
@@ -38,5 +42,10 @@ returns-clause-call g c honest =
     let synced : View = g.D.Disk.view c.sync.new.self in
     let now : View = g.D.Disk.view c.check_sides.new.disk in
     let syncs = c.in_ok-sync.ensures.effect honest in
-    let only_read = c.check_sides.ensures.only_read syncs.honest in
+    let only_read = c.check_sides.ensures.reads.disk.only_read syncs.honest in
     opens_not _ _ (record { honest = only_read.honest; left = no_image_arises given synced now (Ok tt) (g.met.D.Disk.sound c.args.disk.now honest) syncs only_read })
+
+pub returns-clause-memory : goal.returns-clause-memory
+returns-clause-memory g c e honest =
+    let syncs = c.in_ok-sync.ensures.effect honest in
+    rw (syncs.reads, c.in_ok-sync.ensures.called.made) at (c.check_sides.ensures.memory e syncs.honest)

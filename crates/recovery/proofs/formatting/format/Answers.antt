@@ -1,4 +1,4 @@
-use Rattle.std.proofs.Common.{◌≤◌, ◌∷◌, [], arith, refl}
+use Rattle.std.proofs.Common.{rules, ◌≤◌, ◌∷◌, [], arith, refl}
 use Rattle.sector_disk.specs.Disk.{View}
 use Rattle.sector_disk.specs.declared.record.Call.TheVariants.{Sync, Write}
 use Rattle.sector_disk.proofs.Made.{made_of_more}
@@ -12,9 +12,50 @@ use Rattle.recovery.proofs.Called.{calls_in_last}
 use Rattle.recovery.proofs.Formatted.{opens_so, image_opens, within}
 use Rattle.recovery.proofs.formatting.format.Goals as goal
 
+pub returns-then-sectors-clause-keeps : goal.returns-then-sectors-clause-keeps
+returns-then-sectors-clause-keeps g c = record {
+  fault = search rules;
+  sectors = search rules;
+  later = search rules;
+  honest = search rules;
+}
+
+pub returns-in_err-write_sides-clause-keeps : goal.returns-in_err-write_sides-clause-keeps
+returns-in_err-write_sides-clause-keeps g c = record {
+  fault = search rules;
+  sectors = search rules;
+  later = search rules;
+  honest = search rules;
+}
+
+pub returns-in_err-write-clause-keeps : goal.returns-in_err-write-clause-keeps
+returns-in_err-write-clause-keeps g c = record {
+  fault = search rules;
+  sectors = search rules;
+  later = search rules;
+  honest = search rules;
+}
+
+pub returns-in_err-sync-clause-keeps : goal.returns-in_err-sync-clause-keeps
+returns-in_err-sync-clause-keeps g c = record {
+  fault = search rules;
+  sectors = search rules;
+  later = search rules;
+  honest = search rules;
+}
+
+pub returns-clause-keeps : goal.returns-clause-keeps
+returns-clause-keeps g c = record {
+  fault = search rules;
+  sectors = search rules;
+  later = search rules;
+  honest = search rules;
+}
+
 pub returns-in_err-write_sides-clause-some_calls : goal.returns-in_err-write_sides-clause-some_calls
 returns-in_err-write_sides-clause-some_calls g c room =
-    made_of_more (g.D.Disk.view c.args.disk.now) (g.D.Disk.view c.write_sides.new.disk) (side_calls c.args.layout.now) (Write label_at (label_sector c.args.layout.now) ∷ Sync ∷ []) c.write_sides.ensures.some_calls
+    made_of_more (g.D.Disk.view c.args.disk.now) (g.D.Disk.view c.write_sides.new.disk) (side_calls c.args.layout.now)
+    (Write label_at (label_sector c.args.layout.now) ∷ Sync ∷ []) c.write_sides.ensures.some_calls
 
 pub returns-in_err-sync-clause-some_calls : goal.returns-in_err-sync-clause-some_calls
 returns-in_err-sync-clause-some_calls g c room =

@@ -13,4 +13,6 @@ pub returns-in-Err-clause-exact : goal.returns-in-Err-clause-exact
 returns-in-Err-clause-exact g c honest is stops =
     let old : View = g.D.Disk.view c.args.disk.now in
     let bad = c.in-Err.ensures.exact honest in
-    rw c.from.ensures (stops_bad c.args.fault c.in-Err.error (half_of {A = g.row.A.Denot} c.args.journal.now.form c.args.journal.now.count old.reads c.args.journal.now.next c.args.journal.now.end) is bad stops)
+    rw c.from.ensures (stops_bad c.args.fault c.in-Err.error
+    (half_of {A = g.row.A.Denot} c.args.journal.now.form c.args.journal.now.count old.reads c.args.journal.now.next c.args.journal.now.end) is bad
+    stops)

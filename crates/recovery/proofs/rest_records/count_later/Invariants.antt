@@ -1,8 +1,9 @@
-use Rattle.std.proofs.Common.{◌≡◌, ◌<◌, ◌≤◌, ◌-◌}
+use Rattle.std.proofs.Common.{◌≡◌, ◌+◌, ◌<◌, ◌≤◌, ◌-◌, ℕ}
 use Rattle.sector_disk.specs.Disk.{View}
 use Rattle.sector_disk.specs.Reading.{before_reads}
 use Rattle.sector_disk.specs.Run.{HasOnlyRead}
 use Rattle.gated_journal.specs.Settled.{IsCounted}
+use Rattle.recovery.specs.Inside.Rests.{CanRead}
 use Rattle.recovery.proofs.rest_records.count_later.Given as goal
 
 abbrev pub invariant-loop-later : goal.invariant-loop-later
@@ -13,6 +14,9 @@ invariant-loop-later g l =
       room : IsCounted l.journal;
       before : l.journal.next < l.initial.journal.end;
       end : l.journal.end ≡ l.initial.journal.end;
+      form : l.journal.form ≡ l.initial.journal.form;
+      few : l.later + (l.initial.journal.end - l.journal.next) ≤ l.initial.journal.end - l.initial.journal.next;
+      readable : old.honest → (n : ℕ) → CanRead g.row.A.Denot l.journal old n → CanRead g.row.A.Denot l.initial.journal old (l.later + n);
       sectors : now.sectors ≡ old.sectors;
       more_failures : old.failures ≤ now.failures;
       only_read : old.honest → HasOnlyRead old now;

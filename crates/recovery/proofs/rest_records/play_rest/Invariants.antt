@@ -5,6 +5,7 @@ use Rattle.sector_disk.specs.Run.{HasOnlyRead}
 use Rattle.centre_core.specs.State.{State}
 use Rattle.gated_journal.specs.Settled.{IsCounted}
 use Rattle.recovery.specs.Rests.{LeadsTo}
+use Rattle.recovery.specs.Inside.Rests.{HasLater}
 use Rattle.recovery.proofs.rest_records.play_rest.Given as goal
 
 abbrev pub invariant-loop : goal.invariant-loop
@@ -24,6 +25,7 @@ invariant-loop g l =
       only_reads : before_reads now.calls ≡ before_reads old.calls;
       leads : old.honest → (u : State) (bad : Option ℕ) → LeadsTo g.row.A.Denot l.journal.form old.reads l.journal.end l.journal.count l.journal.next l.register u bad
           → LeadsTo g.row.A.Denot l.initial.journal.form old.reads l.initial.journal.end l.initial.journal.count l.initial.journal.next l.initial.register u bad;
+      after : old.honest → (at later : ℕ) → HasLater g.row.A.Denot l.journal old at later → HasLater g.row.A.Denot l.initial.journal old at later;
     }
 
 abbrev pub decreases-loop : goal.decreases-loop

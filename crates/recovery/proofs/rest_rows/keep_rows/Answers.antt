@@ -12,12 +12,12 @@ loop-k-preserved g c =
     let mid : View = g.D.Disk.view c.loop-k.disk in
     let slot = c.args.slot.now in
     record {
-      sectors = c.in_ok-keep_row.ensures.sectors ∙ c.loop-k.invariant.sectors;
-      later = omega (arith, c.in_ok-keep_row.ensures.later, c.loop-k.invariant.later);
+      sectors = c.in_ok-keep_row.ensures.reads.disk.sectors ∙ c.loop-k.invariant.sectors;
+      later = omega (arith, c.in_ok-keep_row.ensures.reads.disk.later, c.loop-k.invariant.later);
       only_read = λ honest.
           let before = c.loop-k.invariant.only_read honest in
-          only_read_on old mid _ before (c.in_ok-keep_row.ensures.only_read before.honest);
-      only_reads = c.in_ok-keep_row.ensures.only_reads ∙ c.loop-k.invariant.only_reads;
+          only_read_on old mid _ before (c.in_ok-keep_row.ensures.reads.disk.only_read before.honest);
+      only_reads = c.in_ok-keep_row.ensures.reads.disk.only_reads ∙ c.loop-k.invariant.only_reads;
       most = c.in_ok-keep_row.ensures.more c.loop-k.k c.loop-k.invariant.most;
       kept = λ honest.
           let before = c.loop-k.invariant.only_read honest in

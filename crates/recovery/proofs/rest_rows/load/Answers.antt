@@ -1,4 +1,6 @@
-use Rattle.std.proofs.Common.{◌≡◌, ◌∙◌, ap, Some}
+use Rattle.std.proofs.Common.{◌≡◌, ◌∙◌, ap, arith, refl, Some}
+use Rattle.std.proofs.lemmas.Result.{err_from_is_err_and}
+use Rattle.sector_disk.proofs.OnlyRead.{no_read}
 use Rattle.image_rows.specs.Loading.{Loading}
 use Rattle.image_rows.specs.Rows.{HeaderRow}
 use Rattle.image_rows.specs.RowReading.{row_in}
@@ -16,3 +18,17 @@ returns-in-Ok-clause-kept g c honest is_row =
     c.in_ok-loader.ensures c.in_ok-_begun.ensures.taken c.in_ok-_begun.ensures.refused in
     c.in-Ok.ensures.kept honest
     ∙ ap (λ (l : Loading). rows_kept (g.D.Disk.view c.args.disk.now).reads slot.first slot.stated (kept_of l (without_rows slot.stated)) (rows_stated slot.stated)) begins
+
+pub returns-in_err-_begun-clause-reads : goal.returns-in_err-_begun-clause-reads
+returns-in_err-_begun-clause-reads g c =
+    let p = err_from_is_err_and c.from_residual-in_err-_begun.result c.from_residual-in_err-_begun.ensures.1 in
+    rw (p.1, p.2) (record {
+      kinds = tt;
+      disk = record {
+        only_read = λ honest. no_read _ honest;
+        only_reads = refl;
+        fault = λ e. absurd cc;
+        sectors = refl;
+        later = omega arith;
+      };
+    })

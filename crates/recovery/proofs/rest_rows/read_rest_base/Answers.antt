@@ -4,6 +4,8 @@ use Rattle.sector_disk.proofs.OnlyRead.{only_read_on, no_read}
 use Rattle.recovery.specs.Rests.{made_by}
 use Rattle.recovery.specs.Inside.Rests.{kept_of}
 use Rattle.recovery.proofs.Remains.{lowered_is_row, made_later, made_never, made_now, no_turn, one_turn}
+use Rattle.sector_disk.specs.Effects.{OnlyReads}
+use Rattle.sector_disk.proofs.Effects.{reads_on}
 use Rattle.recovery.proofs.rest_rows.read_rest_base.Goals as goal
 
 pub loop-init : goal.loop-init
@@ -23,12 +25,12 @@ loop-preserved g c =
     let slot = c.args.slot.now in
     let header = c.loop.header in
     record {
-      sectors = c.in_ok-loader.ensures.sectors ∙ c.loop.invariant.sectors;
-      later = omega (arith, c.in_ok-loader.ensures.later, c.loop.invariant.later);
+      sectors = c.in_ok-loader.ensures.reads.disk.sectors ∙ c.loop.invariant.sectors;
+      later = omega (arith, c.in_ok-loader.ensures.reads.disk.later, c.loop.invariant.later);
       only_read = λ honest.
           let before = c.loop.invariant.only_read honest in
-          only_read_on old mid _ before (c.in_ok-loader.ensures.only_read before.honest);
-      only_reads = c.in_ok-loader.ensures.only_reads ∙ c.loop.invariant.only_reads;
+          only_read_on old mid _ before (c.in_ok-loader.ensures.reads.disk.only_read before.honest);
+      only_reads = c.in_ok-loader.ensures.reads.disk.only_reads ∙ c.loop.invariant.only_reads;
       row = λ is. rw c.lowered-header.ensures (lowered_is_row header c.in_ok-loader.kept (c.loop.invariant.row is));
       made = λ honest is.
           let before = c.loop.invariant.only_read honest in
@@ -60,9 +62,15 @@ returns-clause-exact g c honest is =
     ∙ ap (λ (n : ℕ). made_by slot.limits old.reads slot.first slot.stated n header) (no_turn c.loop.counter c.loop-test.false)
     ∙ made_never slot.limits old.reads slot.first slot.stated header)
 
-pub returns-in-Some-clause-only_read : goal.returns-in-Some-clause-only_read
-returns-in-Some-clause-only_read g c honest =
+pub returns-in-Some-clause-reads : goal.returns-in-Some-clause-reads
+returns-in-Some-clause-reads g c =
     let old : View = g.D.Disk.view c.args.disk.now in
     let mid : View = g.D.Disk.view c.loop.disk in
-    let before = c.loop.invariant.only_read honest in
-    only_read_on old mid _ before (c.in_ok-loader.ensures.only_read before.honest)
+    let before : OnlyReads old mid ⊥ = record {
+      only_read = c.loop.invariant.only_read;
+      only_reads = c.loop.invariant.only_reads;
+      fault = λ e. absurd e;
+      sectors = c.loop.invariant.sectors;
+      later = c.loop.invariant.later;
+    } in
+    record { kinds = tt; disk = reads_on old mid _ before c.in_ok-loader.ensures.reads.disk (λ e. absurd cc) }

@@ -15,7 +15,12 @@ use Rattle.register_text.proofs.Written.{all_rows, begun, grown, lines_after, no
 use Rattle.register_text.proofs.dumping.write_rows.Goals as goal
 
 pub loop-init : goal.loop-init
-loop-init g c = ([], Appends-nil _, begun c.args.register.now _ _ refl refl, not_called g.W.TextSink.took c.args.out.now c.args.text.now.items c.args.text.now.items [] (sym (append-nil c.args.text.now.items)))
+loop-init g c = (
+  [],
+  Appends-nil _,
+  begun c.args.register.now _ _ refl refl,
+  not_called g.W.TextSink.took c.args.out.now c.args.text.now.items c.args.text.now.items [] (sym (append-nil c.args.text.now.items)),
+)
 
 pub returns-in-None-clause-known : goal.returns-in-None-clause-known
 returns-in-None-clause-known g c =
@@ -61,7 +66,9 @@ returns-in_err-pass_on-in-Some-clause-unwritten g c =
     (not_called took c.loop.out c.loop.text.items c.line_after.new.out.items (row_ended row) c.in-Ok.ensures.ok) in
     rw (p.1, p.2) (unwritten_after took g.W.TextSink.failed _ c.args.out.now c.loop.out c.pass_on.new.out held c.line_after.new.out.items (so.0 ++ row_ended row) _
     (held ++ ended (each row_line (rows_of 1 s))) now
-    (ap (λ (l : List ℕ). held ++ l) (sym (append_assoc so.0 (row_ended row) _ ∙ ap (λ (l : List ℕ). so.0 ++ l) (sym next) ∙ so.2 ∙ all_rows s c.registers.ensures.state c.registers.ensures.ranges)) ∙ sym (append_assoc held (so.0 ++ row_ended row) _))
+    (ap (λ (l : List ℕ). held ++ l)
+    (sym (append_assoc so.0 (row_ended row) _ ∙ ap (λ (l : List ℕ). so.0 ++ l) (sym next) ∙ so.2 ∙
+    all_rows s c.registers.ensures.state c.registers.ensures.ranges)) ∙ sym (append_assoc held (so.0 ++ row_ended row) _))
     c.in_err-pass_on-in-Some.ensures.refused)
 
 pub loop-preserved : goal.loop-preserved

@@ -1,6 +1,6 @@
 use Rattle.std.proofs.Common.{◌≡◌, ◌∙◌, None, refl, rules}
 use Rattle.std.specs.Prelude.{slice_get}
-use Rattle.mailbox.proofs.Results.{known_err}
+use Rattle.base.proofs.Results.{on_err}
 use Rattle.image_rows.specs.RowText.{group_in}
 use Rattle.register_text.proofs.Groups.{one_more, all_printed, prefix_kept, prefix_more, prefix_itself, fewer}
 use Rattle.register_text.proofs.printing.put_groups.Goals as goal
@@ -21,7 +21,9 @@ pub loop-group-smaller : goal.loop-group-smaller
 loop-group-smaller g c = fewer c.loop-group.left c.next.new.self (group_in c.in-Some.group) c.in-Some.ensures.value c.next.ensures.rest
 
 pub returns-in_err-put_group-clause-err : goal.returns-in_err-put_group-clause-err
-returns-in_err-put_group-clause-err g c = known_err c.from_residual.result (prefix_kept c.args.out.now.items c.loop-group.out.items c.put_group.new.out.items c.loop-group.invariant.prefix c.in_err-put_group.ensures.err)
+returns-in_err-put_group-clause-err g c =
+    on_err c.from_residual.result
+    (prefix_kept c.args.out.now.items c.loop-group.out.items c.put_group.new.out.items c.loop-group.invariant.prefix c.in_err-put_group.ensures.err)
 
 pub returns-clause-ok : goal.returns-clause-ok
 returns-clause-ok g c =

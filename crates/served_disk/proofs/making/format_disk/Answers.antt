@@ -1,18 +1,20 @@
-use Rattle.std.proofs.Common.{arith, inr, subst, sym}
+use Rattle.std.proofs.Common.{◌∙◌, ap, arith, inr, subst, sym}
 use Rattle.std.specs.declared.alloc.Global.{Global}
+use Rattle.base.proofs.Results.{if_err_then, if_ok_then}
 use Rattle.centre_core.specs.State.{empty}
+use Rattle.file_disk.specs.declared.disk.FileDisk.{FileDisk}
 use Rattle.file_disk.specs.Disk.{file_view}
 use Rattle.served_disk.specs.Making.{IsMadeFor}
-use Rattle.served_disk.proofs.Reasons.{of_error, of_value, on_ok, unmade}
+use Rattle.served_disk.proofs.Reasons.{on_ok, unmade}
 use Rattle.served_disk.proofs.making.format_disk.Goals as goal
 
 pub returns-clause-made : goal.returns-clause-made
-returns-clause-made g c = of_value c.if_formatted.result c.if_formatted.ensures.ok (λ made is. record {
+returns-clause-made g c = if_ok_then c.if_formatted.result c.if_formatted.ensures.ok (λ made is. record {
   disk = c.in_ok-disk.disk;
   gives = c.in_ok-disk.ensures.gives;
   begins = c.in_ok-disk.ensures.blank;
   done = λ honest. subst (λ d. IsMadeFor Global c.args.layout.now (empty c.args.layout.now.limits) (file_view g.F.SectorFile.view d)) (sym is.1) (record {
-    honest = c.format-done.ensures.honest honest;
+    honest = c.format-done.ensures.keeps.honest honest;
     opens_to = on_ok c.format-done.result _ is.0 c.format-done.ensures.opens honest;
   });
 })
@@ -21,7 +23,7 @@ pub returns-clause-refused : goal.returns-clause-refused
 returns-clause-refused g c =
     let blank = c.in_ok-disk.ensures.blank in
     let view = file_view g.F.SectorFile.view in
-    of_error c.if_formatted.result c.if_formatted.ensures.refused c.if_formatted.ensures.err (λ e back failed. inr (record {
+    if_err_then c.if_formatted.result c.if_formatted.ensures.refused c.if_formatted.ensures.err (λ e back failed. inr (record {
       old = c.in_ok-disk.disk;
       new = c.format-done.new.disk;
       gives = c.in_ok-disk.ensures.gives;
@@ -29,3 +31,7 @@ returns-clause-refused g c =
       refused = unmade c.format-done.result e.fault (view c.in_ok-disk.disk) (view c.format-done.new.disk) failed back.1 (c.format-done.ensures.fault (omega (arith, blank.count)));
       returned = back.0;
     }))
+
+pub returns-clause-sectors : goal.returns-clause-sectors
+returns-clause-sectors g c = if_ok_then c.if_formatted.result c.if_formatted.ensures.ok
+    (λ made is. ap (λ (d : FileDisk g.row.F.Denot). d.sectors) is.1 ∙ (c.format-done.ensures.keeps.sectors ∙ c.in_ok-disk.ensures.blank.count))

@@ -1,6 +1,6 @@
 use Rattle.std.proofs.KnownBytes.{Appends-trans}
+use Rattle.base.proofs.Results.{then_on_ok}
 use Rattle.served_disk.specs.Rests.{lacking_radios_text}
-use Rattle.served_disk.proofs.OfRest.{then_on_ok}
 use Rattle.served_disk.proofs.rest.print_lacking_radios.Goals as goal
 
 pub returns : goal.returns

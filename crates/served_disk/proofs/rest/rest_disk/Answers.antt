@@ -1,23 +1,24 @@
-use Rattle.std.proofs.Common.{rules, List, ℕ, ◌≡◌, inr, subst}
+use Rattle.std.proofs.Common.{◌∙◌, rules, ap, inl, inr, subst}
 use Rattle.std.specs.declared.alloc.Global.{Global}
-use Rattle.file_disk.specs.Disk.{file_view}
-use Rattle.register_text.specs.Passing.{IsUnwritten, IsWritten}
-use Rattle.served_disk.specs.Rests.{HasNoRestText, IsRestReported, IsRestText}
+use Rattle.file_disk.specs.declared.disk.FileDisk.{FileDisk}
+use Rattle.file_disk.specs.Disk.{calls_of, file_view}
+use Rattle.served_disk.specs.Dumping.{IsOfDiskDump}
+use Rattle.served_disk.specs.Rests.{HasNoRestText, IsRestWritten}
+use Rattle.served_disk.proofs.Reasons.{passed}
+use Rattle.served_disk.proofs.Returned.{dump_back, none_back, rest_dumps}
 use Rattle.served_disk.proofs.rest.rest_disk.Goals as goal
 
 pub returns-in-Ok-clause-written : goal.returns-in-Ok-clause-written
 returns-in-Ok-clause-written g c =
     let view = file_view g.F.SectorFile.view in
-    let contents = g.W.Write.contents in
     let old = c.args.out.now in
     let new = c.rest_on.new.out in
     record {
       disk = c.in_ok-disk.disk;
       gives = c.in_ok-disk.ensures.gives;
       begins = c.in_ok-disk.ensures.new;
-      done = subst (λ d. (line : List ℕ) × IsRestReported Global (view d).honest (view d).reads line c.in-Ok.report.text.items c.in-Ok.report.whole
-          × IsRestText Global (view d).honest (view d).reads line (contents old) (contents new) (λ text. IsWritten g.W.TextSink.took g.W.TextSink.flushed text old new) (new ≡ old))
-          c.new-counted.ensures c.in-Ok.ensures.written;
+      done = subst (λ d. IsRestWritten Global g.W.Write.contents g.W.TextSink.took g.W.TextSink.flushed old new c.in-Ok.report (view d))
+          c.new-counted.ensures.disk c.in-Ok.ensures.written;
     }
 
 pub returns-in-Err-clause-refused : goal.returns-in-Err-clause-refused
@@ -32,9 +33,21 @@ returns-in-Err-clause-refused g c =
       begins = c.in_ok-disk.ensures.new;
       refused = (
         c.in-Err.fault,
-        subst (λ d. HasNoRestText Global (λ text. IsUnwritten g.W.TextSink.took g.W.TextSink.failed text old new) (view d) (view c.in-Err.disk.disk) c.in-Err.fault)
-            c.new-counted.ensures c.in-Err.ensures.refused,
+        subst (λ d. HasNoRestText Global g.W.TextSink.took g.W.TextSink.failed old new (view d) (view c.in-Err.disk.disk) c.in-Err.fault)
+            c.new-counted.ensures.disk c.in-Err.ensures.refused,
         c.of_dump.ensures.fault,
       );
       returned = search rules;
     })
+
+pub returns-in_err-disk-clause-reading : goal.returns-in_err-disk-clause-reading
+returns-in_err-disk-clause-reading g c =
+    let why = c.in_err-disk.ensures in
+    passed _ c.from_residual.result c.in_err-disk.field-0.0 (search rules) (none_back IsOfDiskDump c.args.name.now c.in_err-disk.field-0.0 (inl why.kinds) why.of_file why.none)
+
+pub returns-in-Err-clause-reading : goal.returns-in-Err-clause-reading
+returns-in-Err-clause-reading g c =
+    let why = c.in-Err.ensures in
+    dump_back c.args.name.now c.of_dump.result c.in-Err.fault c.in-Err.disk.disk (calls_of c.new-counted.result.disk)
+    (ap (λ (d : FileDisk g.row.F.Denot). calls_of d) c.new-counted.ensures.disk ∙ c.in_ok-disk.ensures.new.calls) c.of_dump.ensures.fault (search rules)
+    (rest_dumps c.in-Err.fault why.kinds) why.some_calls

@@ -1,14 +1,15 @@
 use Rattle.std.proofs.Common.{inl, refl}
-use Rattle.served_disk.specs.Rests.{rest_line}
-use Rattle.served_disk.proofs.OfRest.{of_some}
+use Rattle.served_disk.specs.Rests.{line_of}
+use Rattle.served_disk.proofs.OfRest.{of_some, reported_some}
 use Rattle.served_disk.proofs.rest.write_rest.Goals as goal
 
 pub returns-in-Ok-written-clause-written : goal.returns-in-Ok-written-clause-written
 returns-in-Ok-written-clause-written g c =
-    let rest = c.in-Some.rest in (
-      rest_line rest.side rest.epoch rest.register.count rest.left_out rest.stop rest.later,
-      of_some _ _ c.in-Ok.read.0 rest c.in-Some.is c.in-Ok.ensures.reported,
-      inl (record {
+    let rest = c.in-Some.rest in
+    record {
+      line = line_of rest;
+      reported = reported_some _ _ c.in-Ok.read.0 rest _ _ _ c.in-Some.is c.in-Ok.ensures.reported;
+      text = inl (record {
         side = rest.side;
         epoch = rest.epoch;
         out = rest.left_out;
@@ -16,11 +17,12 @@ returns-in-Ok-written-clause-written g c =
         bad = rest.stop;
         later = rest.later;
         left = λ honest. of_some _ _ c.in-Ok.read.0 rest c.in-Some.is (c.in-Ok.ensures.left honest);
+        follow = λ honest. of_some _ _ c.in-Ok.read.0 rest c.in-Some.is (c.in-Ok.ensures.after honest);
         line_is = refl;
         dumped = c.in-Ok-written.ensures.dumped;
         written = c.in-Ok-written.ensures.written;
-      }),
-    )
+      });
+    }
 
 pub returns-in-Err-written-clause-refused : goal.returns-in-Err-written-clause-refused
 returns-in-Err-written-clause-refused g c =

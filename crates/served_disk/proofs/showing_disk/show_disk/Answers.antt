@@ -1,4 +1,8 @@
-use Rattle.std.proofs.Common.{inr}
+use Rattle.std.proofs.Common.{rules, inr}
+use Rattle.file_disk.specs.Disk.{calls_of}
+use Rattle.served_disk.specs.Making.{IsOfOpening}
+use Rattle.served_disk.proofs.Reasons.{passed}
+use Rattle.served_disk.proofs.Returned.{none_back, store_back}
 use Rattle.served_disk.proofs.showing_disk.show_disk.Goals as goal
 
 pub returns-in-Ok-clause-shown : goal.returns-in-Ok-clause-shown
@@ -18,3 +22,14 @@ returns-in-Err-clause-refused g c = inr (record {
   refused = (c.in-Err.fault, c.in-Err.ensures.refused, c.of_store.ensures.fault);
   returned = c.of_store.ensures.disk;
 })
+
+pub returns-in_err-disk-clause-reading : goal.returns-in_err-disk-clause-reading
+returns-in_err-disk-clause-reading g c =
+    let why = c.in_err-disk.ensures in
+    passed _ c.from_residual.result c.in_err-disk.field-0.0 (search rules) (none_back IsOfOpening c.args.name.now c.in_err-disk.field-0.0 why.kinds why.of_file why.none)
+
+pub returns-in-Err-clause-reading : goal.returns-in-Err-clause-reading
+returns-in-Err-clause-reading g c =
+    let why = c.in-Err.ensures in
+    store_back c.args.name.now c.of_store.result c.in-Err.fault c.in-Err.disk (calls_of c.in_ok-disk.disk) c.in_ok-disk.ensures.new.calls
+    c.of_store.ensures.fault c.of_store.ensures.disk why.kinds why.some_calls

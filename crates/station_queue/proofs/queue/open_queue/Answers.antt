@@ -27,7 +27,9 @@ loop-station-preserved c =
       omega arith,
       ap (λ (t : Taking). t.taken) now ∙ i.1,
       omega arith,
-      more_senders _ _ _ c.loop-station.taker.queue _ _ items i.2 (c.in_ok-sender.ensures.sender ∙ ap (λ n. sending c.loop-station.taker.queue n []) c.new-in-loop-station.ensures) (ap (λ (t : Taking). t.queue) now) i.3,
+      more_senders _ _ _ c.loop-station.taker.queue _ _ items i.2
+          (c.in_ok-sender.ensures.sender ∙ ap (λ n. sending c.loop-station.taker.queue n []) c.new-in-loop-station.ensures)
+          (ap (λ (t : Taking). t.queue) now) i.3,
       ap (λ (t : Taking). t.settled) now ∙ i.4,
       All-same (λ (s : Sending). s.queue ≡ new) _ _ items (All-push (λ (s : Sending). s.queue ≡ new) c.loop-station.senders.items c.in_ok-sender.sender same mine),
     )

@@ -2,12 +2,13 @@ use Rattle.std.proofs.Common.{◌≡◌, List, [], ◌∷◌, ◌++◌, length, 
 use Rattle.std.specs.Prelude.{All, map}
 use Rattle.std.proofs.lemmas.List.{append-nil, map-append}
 use Rattle.std.proofs.lemmas.List.Elements.{All-nil, All-push}
+use Rattle.base.proofs.Lists.{fewer_before, nil_of_length}
 use Rattle.flusher.specs.declared.session.Session.{Session}
 use Rattle.stations.specs.declared.job.Job.{Job}
 use Rattle.stations.specs.declared.port.Port.{Port}
 use Rattle.stations.specs.Orders.{may}
 use Rattle.stations.proofs.Places.{map_length}
-use Rattle.stations.proofs.Zipped.{fewer, nothing, whole}
+use Rattle.stations.proofs.Zipped.{whole}
 use Rattle.stations.proofs.many_stations.jobs_of.Goals as goal
 
 pub loop-session-init : goal.loop-session-init
@@ -31,7 +32,7 @@ push_reserved-requires g c =
     let i = c.loop-session.invariant in
     let step : c.loop-session.session-iterator.rest.items ≡ c.in-Some.session ∷ c.next.new.self.rest.items = search rules in
     let split = subst (λ (l : List (Session g.row.J.Denot)). c.loop-session.yielded ++ l ≡ c.args.sessions.items) step i.in_turn in
-    let few = fewer c.loop-session.yielded c.in-Some.session c.next.new.self.rest.items c.args.sessions.items split in
+    let few = fewer_before c.loop-session.yielded c.in-Some.session c.next.new.self.rest.items c.args.sessions.items split in
     let count = sym (map_length (λ (j : Job g.row.J.Denot g.row.I.Denot g.row.O.Denot). j.session) c.loop-session.jobs.items) ∙ ap length i.sessions in
     omega (arith, few, count, i.room, c.loop-session.jobs.ok.0)
 
@@ -40,7 +41,7 @@ unreachable-requires g c =
     let i = c.loop-session.invariant in
     let step : c.loop-session.session-iterator.rest.items ≡ c.in-Some.session ∷ c.next.new.self.rest.items = search rules in
     let split = subst (λ (l : List (Session g.row.J.Denot)). c.loop-session.yielded ++ l ≡ c.args.sessions.items) step i.in_turn in
-    let few = fewer c.loop-session.yielded c.in-Some.session c.next.new.self.rest.items c.args.sessions.items split in
+    let few = fewer_before c.loop-session.yielded c.in-Some.session c.next.new.self.rest.items c.args.sessions.items split in
     let count = sym (map_length (λ (j : Job g.row.J.Denot g.row.I.Denot g.row.O.Denot). j.session) c.loop-session.jobs.items) ∙ ap length i.sessions in
     let also = map_length (λ (j : Job g.row.J.Denot g.row.I.Denot g.row.O.Denot). j.port) c.loop-session.jobs.items in
     let all = sym (length-append (map (λ (j : Job g.row.J.Denot g.row.I.Denot g.row.O.Denot). j.port) c.loop-session.jobs.items) c.loop-session.ports.rest.items) ∙ ap length i.ports in
@@ -86,10 +87,11 @@ returns g c =
     let count = sym (map_length (λ (j : Job g.row.J.Denot g.row.I.Denot g.row.O.Denot). j.session) c.loop-session.jobs.items) ∙ ap length (i.sessions ∙ all) in
     let also = map_length (λ (j : Job g.row.J.Denot g.row.I.Denot g.row.O.Denot). j.port) c.loop-session.jobs.items in
     let sum = sym (length-append (map (λ (j : Job g.row.J.Denot g.row.I.Denot g.row.O.Denot). j.port) c.loop-session.jobs.items) c.loop-session.ports.rest.items) ∙ ap length i.ports in
-    let none : c.loop-session.ports.rest.items ≡ [] = nothing c.loop-session.ports.rest.items (omega (arith, count, also, sum, c.requires.count)) in
+    let none : c.loop-session.ports.rest.items ≡ [] = nil_of_length c.loop-session.ports.rest.items (omega (arith, count, also, sum, c.requires.count)) in
     record {
       sessions = i.sessions ∙ all;
-      ports = sym (append-nil (map (λ (j : Job g.row.J.Denot g.row.I.Denot g.row.O.Denot). j.port) c.loop-session.jobs.items)) ∙ ap (λ l. map (λ (j : Job g.row.J.Denot g.row.I.Denot g.row.O.Denot). j.port) c.loop-session.jobs.items ++ l) (sym none) ∙ i.ports;
+      ports = sym (append-nil (map (λ (j : Job g.row.J.Denot g.row.I.Denot g.row.O.Denot). j.port) c.loop-session.jobs.items)) ∙
+          ap (λ l. map (λ (j : Job g.row.J.Denot g.row.I.Denot g.row.O.Denot). j.port) c.loop-session.jobs.items ++ l) (sym none) ∙ i.ports;
       orders = i.orders;
       turns = i.turns;
       count = omega (arith, count, c.loop-session.jobs.ok.0, c.args.sessions.ok.0);

@@ -1,11 +1,12 @@
-use Rattle.std.proofs.Common.{◌≡◌, ◌+◌, List, [], ◌∷◌, ◌++◌, length, ap, sym, ◌∙◌, subst, rules, arith, append_assoc}
+use Rattle.std.proofs.Common.{◌≡◌, List, [], ◌∷◌, ◌++◌, length, ap, sym, ◌∙◌, subst, rules, arith, append_assoc}
 use Rattle.std.specs.Prelude.{map}
 use Rattle.std.proofs.lemmas.List.{map-append}
+use Rattle.base.proofs.Lists.{fewer_before}
 use Rattle.flusher.specs.declared.session.Ended.{Ended}
 use Rattle.stations.specs.declared.job.Done.{Done}
 use Rattle.stations.specs.declared.station_run.StationRun.{StationRun}
 use Rattle.stations.proofs.Places.{map_length}
-use Rattle.stations.proofs.Zipped.{fewer, whole}
+use Rattle.stations.proofs.Zipped.{whole}
 use Rattle.stations.proofs.many_stations.split_done.Goals as goal
 
 pub loop-one-init : goal.loop-one-init
@@ -25,7 +26,7 @@ push_reserved-requires g c =
     let i = c.loop-one.invariant in
     let step : c.loop-one.one-iterator.rest.items ≡ c.in-Some.one ∷ c.next.new.self.rest.items = search rules in
     let split = subst (λ (l : List (Done g.row.J.Denot g.row.I.Denot g.row.O.Denot)). c.loop-one.yielded ++ l ≡ c.args.done.items) step i.in_turn in
-    let few = fewer c.loop-one.yielded c.in-Some.one c.next.new.self.rest.items c.args.done.items split in
+    let few = fewer_before c.loop-one.yielded c.in-Some.one c.next.new.self.rest.items c.args.done.items split in
     let count = ap length i.ended ∙ map_length (λ (d : Done g.row.J.Denot g.row.I.Denot g.row.O.Denot). d.ended) c.loop-one.yielded in
     omega (arith, few, count, i.ended_room, c.loop-one.ended.ok.0)
 
@@ -34,7 +35,7 @@ push_reserved-requires-in-loop-one g c =
     let i = c.loop-one.invariant in
     let step : c.loop-one.one-iterator.rest.items ≡ c.in-Some.one ∷ c.next.new.self.rest.items = search rules in
     let split = subst (λ (l : List (Done g.row.J.Denot g.row.I.Denot g.row.O.Denot)). c.loop-one.yielded ++ l ≡ c.args.done.items) step i.in_turn in
-    let few = fewer c.loop-one.yielded c.in-Some.one c.next.new.self.rest.items c.args.done.items split in
+    let few = fewer_before c.loop-one.yielded c.in-Some.one c.next.new.self.rest.items c.args.done.items split in
     let given : Done g.row.J.Denot g.row.I.Denot g.row.O.Denot → StationRun g.row.I.Denot g.row.O.Denot = λ d. d.run in
     let count = ap length i.runs ∙ map_length given c.loop-one.yielded in
     omega (arith, few, count, i.runs_room, c.loop-one.runs.ok.0)

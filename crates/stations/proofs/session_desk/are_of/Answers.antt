@@ -3,8 +3,8 @@ use Rattle.std.specs.Prelude.{All}
 use Rattle.std.proofs.lemmas.List.{take_all}
 use Rattle.std.proofs.lemmas.List.Elements.{All-push}
 use Rattle.std.specs.declared.alloc.Global.{Global}
+use Rattle.base.proofs.Lists.{take_one}
 use Rattle.centre_core.specs.Asked.{Asked}
-use Rattle.desk.proofs.InTurn.{take_one}
 use Rattle.stations.specs.Orders.{is_allowed}
 use Rattle.stations.proofs.session_desk.are_of.Goals as goal
 
@@ -18,4 +18,5 @@ loop-k-preserved c =
 
 pub returns : goal.returns
 returns c = λ yes.
-    subst (All (λ (command : Asked Global). (command.station ≡ c.args.station) × (is_allowed c.args.orders command ≡ true))) (take_all c.loop-k.k c.args.commands.now c.loop-k-test.false) c.loop-k.invariant
+    subst (All (λ (command : Asked Global). (command.station ≡ c.args.station) × (is_allowed c.args.orders command ≡ true)))
+    (take_all c.loop-k.k c.args.commands.now c.loop-k-test.false) c.loop-k.invariant

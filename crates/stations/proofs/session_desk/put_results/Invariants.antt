@@ -1,4 +1,4 @@
-use Rattle.std.proofs.Common.{◌≡◌, ◌+◌, ◌++◌, length}
+use Rattle.std.proofs.Common.{◌≡◌, ◌++◌, length}
 use Rattle.std.specs.Prelude.{All, IfOk, map, vec_capacity, vec_len}
 use Rattle.desk.specs.Replies.{HasShortPdu}
 use Rattle.stations.specs.OfSession.{result_of}

@@ -10,7 +10,7 @@ returns-in-Ok-clause-applies g c =
     let own : c.in-Ok.own ≡ c.args.command.now = c.in-Ok.ensures.ok ∙ under_own c.args.command.now in
     let same : c.args.command.now.station ≡ c.args.session.now.sender.station = search rules in
     let allowed : is_allowed c.args.means.now.orders c.args.command.now ≡ true = search rules in (
-      c.submit.ensures.same.1,
+      c.submit.ensures.same.station,
       inl (
         same,
         allowed,
@@ -21,3 +21,6 @@ returns-in-Ok-clause-applies g c =
         },
       ),
     )
+
+pub returns-in-Ok-clause-session : goal.returns-in-Ok-clause-session
+returns-in-Ok-clause-session g c = record { same = c.submit.ensures.same; seen = c.submit.ensures.seen }

@@ -2,13 +2,15 @@ use Rattle.std.proofs.Common.{List, take, ◌∙◌, sym, subst, arith}
 use Rattle.std.specs.Prelude.{All, IfOk, Result}
 use Rattle.std.proofs.lemmas.List.Elements.{All-push}
 use Rattle.std.specs.declared.alloc.Global.{Global}
+use Rattle.base.proofs.Lists.{take_one}
 use Rattle.snapshots.proofs.Prefixes.{prefix_trans}
 use Rattle.centre_core.specs.Asked.{Asked}
 use Rattle.centre_core.specs.declared.reply.Reply.{Reply}
 use Rattle.desk.specs.declared.outage.Outage.{Outage}
 use Rattle.desk.specs.Replies.{HasShortPdu}
 use Rattle.desk.specs.Rules.{AreApplied}
-use Rattle.desk.proofs.InTurn.{applied_more, take_one}
+use Rattle.desk.proofs.InTurn.{applied_more}
+use Rattle.flusher.proofs.Sessions.{same_on}
 use Rattle.stations.specs.OfSession.{at_session, of_session}
 use Rattle.stations.proofs.session_desk.submit_each.Goals as goal
 
@@ -23,14 +25,15 @@ loop-k-preserved g c =
     let t = at_session c.submit-reply.new.session in
     let more = c.push_reserved.ensures.items in
     let Short : Result (Reply Global) Outage → Type 0 = λ reply. IfOk reply HasShortPdu in
-    let was = i.same in
-    let is = c.submit-reply.ensures.same in
     record {
       applied = subst (λ (q : List (Asked Global) × List (Result (Reply Global) Outage)). AreApplied rules s q.0 q.1 t) (λ j. (sym one j, sym more j))
           (applied_more rules (take k c.args.commands.now) command s (at_session c.loop-k.session) t c.loop-k.replies.items c.submit-reply.result i.applied c.submit-reply.ensures.applies);
       count = omega (arith, c.push_reserved.ensures.len, i.count);
       short = subst (All Short) (sym more) (All-push Short c.loop-k.replies.items c.submit-reply.result i.short c.submit-reply.ensures.short);
       room = c.push_reserved.ensures.capacity ∙ i.room;
-      same = (is.0 ∙ was.0, is.1 ∙ was.1, is.2 ∙ was.2);
-      seen = prefix_trans c.args.session.now.viewer c.loop-k.session.viewer c.submit-reply.new.session.viewer i.seen c.submit-reply.ensures.seen;
+      same = same_on c.args.session.now c.loop-k.session c.submit-reply.new.session i.same c.submit-reply.ensures.session.same;
+      seen = prefix_trans c.args.session.now.viewer c.loop-k.session.viewer c.submit-reply.new.session.viewer i.seen c.submit-reply.ensures.session.seen;
     }
+
+pub returns-clause-session : goal.returns-clause-session
+returns-clause-session g c = record { same = c.loop-k.invariant.same; seen = c.loop-k.invariant.seen }

@@ -20,11 +20,12 @@ returns g c =
         run = ran.ensures.answers;
         told = ran.ensures.told;
         ends = ran.ensures.ends;
-        sender = subst (λ (q : TableId × Station). c.finish-ended.result.sender ≡ sending q.0 q.1 (session.sender.sent ++ entry.Ended q.1 ∷ [])) (λ i. (ran.ensures.same.0 i, ran.ensures.same.1 i)) end.sent;
+        sender = subst (λ (q : TableId × Station). c.finish-ended.result.sender ≡ sending q.0 q.1 (session.sender.sent ++ entry.Ended q.1 ∷ []))
+            (λ i. (ran.ensures.goes_on.queue i, ran.ensures.goes_on.station i)) end.sent;
         received = ap (λ (r : AnswerReceiver Sent). received_of r.pass) end.same.0;
-        channel = ap (λ (r : AnswerReceiver Sent). receives_on r.channel) end.same.0 ∙ ran.ensures.same.2;
+        channel = ap (λ (r : AnswerReceiver Sent). receives_on r.channel) end.same.0 ∙ ran.ensures.goes_on.channel;
         seen = end.same.1;
-        submits = ran.ensures.submits;
+        submits = ran.ensures.goes_on.submits;
         memory = λ out. ap view_of (ran.ensures.memory out);
       },
     )

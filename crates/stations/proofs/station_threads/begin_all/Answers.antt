@@ -1,5 +1,6 @@
 use Rattle.std.proofs.Common.{◌≡◌, ◌+◌, [], ◌∷◌, ◌++◌, length, ap, ◌∙◌, subst, arith, append_assoc, length-append}
-use Rattle.stations.proofs.Zipped.{fewer, of_all, one_more, whole}
+use Rattle.base.proofs.Lists.{fewer_before}
+use Rattle.stations.proofs.Zipped.{of_all, one_more, whole}
 use Rattle.stations.proofs.station_threads.begin_all.Goals as goal
 
 pub loop-job-init : goal.loop-job-init
@@ -17,7 +18,7 @@ pub push_reserved-requires : goal.push_reserved-requires
 push_reserved-requires g c =
     let i = c.loop-job.invariant in
     let split = subst (λ l. c.loop-job.yielded ++ l ≡ c.args.jobs.items) c.in-Some.ensures.steps.0 i.in_turn in
-    let few = fewer c.loop-job.yielded c.in-Some.job c.next.new.self.rest.items c.args.jobs.items split in
+    let few = fewer_before c.loop-job.yielded c.in-Some.job c.next.new.self.rest.items c.args.jobs.items split in
     omega (arith, few, i.count, i.room, c.loop-job.begun.ok.0)
 
 pub loop-job-preserved : goal.loop-job-preserved

@@ -1,5 +1,6 @@
-use Rattle.std.proofs.Common.{◌≡◌, ◌+◌, [], ◌∷◌, ◌++◌, length, ap, ◌∙◌, subst, arith, append_assoc, length-append}
-use Rattle.stations.proofs.Zipped.{fewer, of_all, one_more}
+use Rattle.std.proofs.Common.{◌≡◌, [], ◌∷◌, ◌++◌, length, ap, ◌∙◌, subst, arith, append_assoc, length-append}
+use Rattle.base.proofs.Lists.{fewer_before}
+use Rattle.stations.proofs.Zipped.{of_all, one_more}
 use Rattle.stations.proofs.station_threads.end_all.Goals as goal
 
 pub loop-one-init : goal.loop-one-init
@@ -17,7 +18,7 @@ pub push_reserved-requires : goal.push_reserved-requires
 push_reserved-requires g c =
     let i = c.loop-one.invariant in
     let split = subst (λ l. c.loop-one.yielded ++ l ≡ c.args.begun.items) c.in-Some.ensures.steps.0 i.in_turn in
-    let few = fewer c.loop-one.yielded c.in-Some.one c.next.new.self.rest.items c.args.begun.items split in
+    let few = fewer_before c.loop-one.yielded c.in-Some.one c.next.new.self.rest.items c.args.begun.items split in
     omega (arith, few, i.count, i.room, c.loop-one.done.ok.0)
 
 pub loop-one-preserved : goal.loop-one-preserved

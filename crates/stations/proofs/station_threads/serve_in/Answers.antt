@@ -15,3 +15,19 @@ returns-clause-done g c =
     (λ h same kept. subst (λ (j : Job g.row.J.Denot g.row.I.Denot g.row.O.Denot). IsDone g.row.J.Denot g.J.Centre.base g.I.Read.remaining g.O.Write.contents j done) same kept)
     (λ d made same. subst (λ (x : Done g.row.J.Denot g.row.I.Denot g.row.O.Denot). IsDone g.row.J.Denot g.J.Centre.base g.I.Read.remaining g.O.Write.contents job x) (sym same) made))
     c.begin_all-begun.ensures.begun c.end_all.ensures
+
+pub returns-clause-flushed : goal.returns-clause-flushed
+returns-clause-flushed g c =
+    let run = c.run.ensures in
+    record {
+      rounds = run.rounds;
+      ended = run.ended;
+      at_once = run.at_once;
+      same = run.same;
+      settled = run.settled;
+      stored = λ first. (run.stored first).stored;
+      any_moment = λ first. (run.stored first).any_moment;
+      lasting = λ first. (run.stored first).lasting;
+      later = run.breaks.later;
+      failed = run.breaks.failed;
+    }

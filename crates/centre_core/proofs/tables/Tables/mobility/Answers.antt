@@ -14,9 +14,13 @@ returns-in-Err-NoMemory-clause-memory g c =
 pub returns-in-Ok-Demand-clause-memory : goal.returns-in-Ok-Demand-clause-memory
 returns-in-Ok-Demand-clause-memory g c =
     let read : reading_up {A = g.row.C.Denot} c.args.pdu.now ≡ Ok (Demand c.in-Ok-Demand.update) = search rules in
-    on_err_weaker c.locate.result (λ h. pdu_read g.row.B.Denot g.row.C.Denot c.args.self.now c.args.command.now.moment c.args.itsi c.args.area c.args.pdu.now (Ok (Demand c.in-Ok-Demand.update)) read h) c.locate.ensures.memory
+    on_err_weaker c.locate.result
+    (λ h. pdu_read g.row.B.Denot g.row.C.Denot c.args.self.now c.args.command.now.moment c.args.itsi c.args.area c.args.pdu.now
+    (Ok (Demand c.in-Ok-Demand.update)) read h) c.locate.ensures.memory
 
 pub returns-in-Ok-Groups-clause-memory : goal.returns-in-Ok-Groups-clause-memory
 returns-in-Ok-Groups-clause-memory g c =
     let read : reading_up {A = g.row.C.Denot} c.args.pdu.now ≡ Ok (Groups c.in-Ok-Groups.mode c.in-Ok-Groups.items) = search rules in
-    on_err_weaker c.change_groups.result (λ h. pdu_read g.row.B.Denot g.row.C.Denot c.args.self.now c.args.command.now.moment c.args.itsi c.args.area c.args.pdu.now (Ok (Groups c.in-Ok-Groups.mode c.in-Ok-Groups.items)) read h) c.change_groups.ensures.memory
+    on_err_weaker c.change_groups.result
+    (λ h. pdu_read g.row.B.Denot g.row.C.Denot c.args.self.now c.args.command.now.moment c.args.itsi c.args.area c.args.pdu.now
+    (Ok (Groups c.in-Ok-Groups.mode c.in-Ok-Groups.items)) read h) c.change_groups.ensures.memory

@@ -19,5 +19,6 @@ invariant_of-self-else-known g c =
 pub returns-else-known-clause-ok : goal.returns-else-known-clause-ok
 returns-else-known-clause-ok g c =
     let s : State = record { registered = c.self.inside.registry; groups = c.self.inside.groups; mail = c.self.inside.mail; served = c.self.inside.served.items; count = c.self.inside.count } in
-    subst (λ (t : State). (room_refusal t.registered c.args.itsi ≡ None) × (record s { registered = c.place.new.self } ≡ radio_located t c.args.itsi c.args.station c.args.area c.args.update)) c.self.view_is
+    subst (λ (t : State). (room_refusal t.registered c.args.itsi ≡ None) ×
+    (record s { registered = c.place.new.self } ≡ radio_located t c.args.itsi c.args.station c.args.area c.args.update)) c.self.view_is
     (new_located_whole s c.place.new.self c.args.itsi c.args.station c.args.area c.args.update c.in_ok-known.ensures.ok (sym c.if-known.false ∙ c.in_ok-known.ensures.known) c.self.invariant)

@@ -34,8 +34,10 @@ pub invariant_of-self-2 : goal.invariant_of-self-2
 invariant_of-self-2 g c =
     let s : State = record { registered = c.self.inside.registry; groups = c.self.inside.groups; mail = c.self.inside.mail; served = c.self.inside.served.items; count = c.self.inside.count } in
     let left : s.count < last_number = search rules in
-    let made : item_for s.registered (key_of c.args.envelope.now Message) c.stamp-stamp.result c.in_ok-bits.bits ≡ message_of s c.args.command.now.moment c.args.envelope.now c.args.pdu.now = search rules in
+    let made : item_for s.registered (key_of c.args.envelope.now Message) c.stamp-stamp.result c.in_ok-bits.bits ≡ message_of s
+    c.args.command.now.moment c.args.envelope.now c.args.pdu.now = search rules in
     let item = c.in-Ok.ensures.item c.stamp-stamp.result c.in_ok-bits.bits in
     let none : post_refusal s.registered s.mail (item_in c.in-Ok.opening c.stamp-stamp.result c.in_ok-bits.bits) ≡ None =
     ap (post_refusal s.registered s.mail) item ∙ sym (c.in-Ok.ensures.refusal c.stamp-stamp.result c.in_ok-bits.bits) in
-    posted_state s c.args.command.now c.args.envelope.now c.args.pdu.now _ _ _ _ c.requires.pdu left (item ∙ made) (none, c.in_ok-post_judged.ensures.ok) c.count_accepted.ensures.kept c.count_accepted.ensures.count c.self.invariant
+    posted_state s c.args.command.now c.args.envelope.now c.args.pdu.now _ _ _ _ c.requires.pdu left (item ∙ made)
+    (none, c.in_ok-post_judged.ensures.ok) c.count_accepted.ensures.kept c.count_accepted.ensures.count c.self.invariant

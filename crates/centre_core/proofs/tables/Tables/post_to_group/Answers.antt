@@ -16,8 +16,10 @@ pub invariant_of-self-2 : goal.invariant_of-self-2
 invariant_of-self-2 g c =
     let s : State = record { registered = c.self.inside.registry; groups = c.self.inside.groups; mail = c.self.inside.mail; served = c.self.inside.served.items; count = c.self.inside.count } in
     let left : s.count < last_number = search rules in
-    let made : copies s.registered c.args.envelope.now c.as_slice-members.result.now c.stamp-stamp.result c.in_ok-bits.bits ≡ copies_of s c.args.command.now.moment c.args.envelope.now c.args.pdu.now = search rules in
-    copies_state s c.args.command.now c.args.envelope.now c.args.pdu.now _ _ _ _ c.requires.pdu left made c.in-Ok.ensures.ok c.count_accepted.ensures.kept c.count_accepted.ensures.count c.self.invariant
+    let made : copies s.registered c.args.envelope.now c.as_slice-members.result.now c.stamp-stamp.result c.in_ok-bits.bits ≡ copies_of s
+    c.args.command.now.moment c.args.envelope.now c.args.pdu.now = search rules in
+    copies_state s c.args.command.now c.args.envelope.now c.args.pdu.now _ _ _ _ c.requires.pdu left made c.in-Ok.ensures.ok
+    c.count_accepted.ensures.kept c.count_accepted.ensures.count c.self.invariant
 
 pub group_refusal-requires : goal.group_refusal-requires
 group_refusal-requires g c =

@@ -3,4 +3,12 @@ use Rattle.centre_core.proofs.tables.Tables.set_rule.Goals as goal
 
 pub invariant_of-self-2 : goal.invariant_of-self-2
 invariant_of-self-2 g c =
-    rule_set_state (record { registered = c.self.inside.registry; groups = c.self.inside.groups; mail = c.self.inside.mail; served = c.self.inside.served.items; count = c.self.inside.count }) _ c.args.prefix c.args.rule c.in_default.ensures.ok.0 c.in_default.ensures.ok.1 c.self.invariant
+    rule_set_state (record {
+      registered = c.self.inside.registry;
+      groups = c.self.inside.groups;
+      mail = c.self.inside.mail;
+      served =
+          c.self.inside.served.items;
+      count = c.self.inside.count;
+    }) _ c.args.prefix c.args.rule c.in_default.ensures.ok.0 c.in_default.ensures.ok.1
+    c.self.invariant

@@ -1,7 +1,7 @@
 use Rattle.std.proofs.Common.{ℕ, ◌+◌, ◌-◌, [], length, take, drop, refl, ◌∙◌, arith}
 use Rattle.std.proofs.lemmas.Grind.{common_steps}
 use Rattle.std.proofs.lemmas.Result.{on_err_weaker, on_ok_weaker}
-use Rattle.mailbox.proofs.Results.{known_err}
+use Rattle.base.proofs.Results.{on_err}
 use Rattle.console.specs.Inside.Passing.{sent_by}
 use Rattle.console.proofs.Told.{failed_once, failure_passes, flush_fails, flush_passes, passes_by, passes_on, still_passes, write_passes}
 use Rattle.console.proofs.Writing.{left_of, left_later, none_left}
@@ -20,10 +20,12 @@ pub returns-in_err-at-clause-err : goal.returns-in_err-at-clause-err
 returns-in_err-at-clause-err g c =
     let contents = g.W.Write.contents in
     let left = drop c.loop-at.at c.args.bytes.now in
-    known_err c.from_residual.result (
+    on_err c.from_residual.result (
       left,
       passes_on (sent_by contents c.args.self.now) (sent_by contents c.loop-at.self) (sent_by contents c.write.new.self) c.args.bytes.now [] left [] left c.loop-at.invariant.4
-          (failure_passes _ _ left c.in_err-at.ensures.noted (failed_once ℕ c.in_err-at.field-0.0 c.loop-at.self.failures.now c.write.new.self.failures.now c.in_err-at.ensures.plain c.in_err-at.ensures.ledger) c.in_err-at.ensures.err),
+          (failure_passes _ _ left c.in_err-at.ensures.noted
+          (failed_once ℕ c.in_err-at.field-0.0 c.loop-at.self.failures.now c.write.new.self.failures.now c.in_err-at.ensures.plain
+          c.in_err-at.ensures.ledger) c.in_err-at.ensures.err),
     )
 
 pub loop-at-preserved : goal.loop-at-preserved

@@ -98,7 +98,8 @@ returns-in_err-take_piece-in-Bytes-clause-answers g c = λ input before known he
     let piece = subst (λ (p : Piece). IsPiece p c.read.new.buffer left.0 (g.R.Read.remaining c.read.new.self.reader.now)) c.in-Bytes.is (c.in_ok-read.ensures.ok left.0 left.1) in
     let p = err_from_is_err_and c.from_residual-in_err-take_piece-in-Bytes.result c.from_residual-in_err-take_piece-in-Bytes.ensures.1 in
     has_run g.D.Desk.rules start begun input before now t c.from_residual-in_err-take_piece-in-Bytes.result held
-    (told_by g.D.Desk.rules start begun ((so.0 ++ bytes) ++ piece.0) input now t (Err p.0) c.from_residual-in_err-take_piece-in-Bytes.result (sym (passed_on input so.0 left.0 bytes piece.0 left.2 piece.2)) (sym p.1)
+    (told_by g.D.Desk.rules start begun ((so.0 ++ bytes) ++ piece.0) input now t (Err p.0) c.from_residual-in_err-take_piece-in-Bytes.result
+    (sym (passed_on input so.0 left.0 bytes piece.0 left.2 piece.2)) (sym p.1)
     (c.in_err-take_piece-in-Bytes.ensures.err start begun so.0 piece.0 so.3))
 
 pub returns-in_err-take_piece-in-Bytes-clause-told : goal.returns-in_err-take_piece-in-Bytes-clause-told
@@ -209,7 +210,8 @@ returns-in_err-take_piece-in-Bytes-clause-ends g c =
     let ended = c.in_err-take_piece-in-Bytes.ensures.err start begun so.0 [] so.3 in
     let p = err_from_is_err_and c.from_residual-in_err-take_piece-in-Bytes.result c.from_residual-in_err-take_piece-in-Bytes.ensures.1 in
     rw (p.1 ∙ ap Err p.2) (ends_read c.args.self.now.terms.now.turns (calls_of c.args.input.now) (calls_of c.loop.input) c.loop.counter c.loop.invariant.9 begun now ended.0 ended.1
-    (calls_of c.read.new.self) (take c.in-Bytes.n c.read.new.buffer) (Err c.in_err-take_piece-in-Bytes.field-0.0) (c.in_ok-read.ensures.events ∙ ap (λ (q : Piece). c.loop.input.events.list ++ event.Read (read_in q c.read.new.buffer) ∷ []) c.in-Bytes.is)
+    (calls_of c.read.new.self) (take c.in-Bytes.n c.read.new.buffer) (Err c.in_err-take_piece-in-Bytes.field-0.0)
+    (c.in_ok-read.ensures.events ∙ ap (λ (q : Piece). c.loop.input.events.list ++ event.Read (read_in q c.read.new.buffer) ∷ []) c.in-Bytes.is)
     c.loop-test.true tt c.in_err-take_piece-in-Bytes.ensures.stops (omega (arith, c.in_err-take_piece-in-Bytes.ensures.ledger, c.loop.invariant.7)))
 
 pub returns-clause-ends : goal.returns-clause-ends
@@ -217,4 +219,5 @@ returns-clause-ends g c =
     let begun = sent_by g.W.Write.contents c.args.self.now.output.now in
     let now = sent_by g.W.Write.contents c.loop.self.output.now in
     let passed = c.loop.invariant.3.3.passed in
-    ends_out c.args.self.now.terms.now.turns (calls_of c.args.input.now) (calls_of c.loop.input) c.loop.counter c.loop.invariant.9 begun now passed.events passed.follows (omega (arith, c.loop-test.false, c.loop.auto.counter-end)) c.loop.invariant.7
+    ends_out c.args.self.now.terms.now.turns (calls_of c.args.input.now) (calls_of c.loop.input) c.loop.counter c.loop.invariant.9 begun now
+    passed.events passed.follows (omega (arith, c.loop-test.false, c.loop.auto.counter-end)) c.loop.invariant.7

@@ -19,4 +19,5 @@ returns-clause-ok g c = λ start begun taken i.
     let at = c.loop-end.at in
     let plain = subst (λ (l : List ℕ). HasNoEnd l) (sym (rest_is at piece)) c.in_default.ensures in
     going_same g.D.Desk.rules start begun _ (taken ++ piece) _ (to_its_end taken piece at)
-    (going_more g.D.Desk.rules start begun (taken ++ take at piece) (reached_by g.D.Desk.world g.W.Write.contents c.loop-end.self) _ (rest_of at piece) plain refl refl c.add.ensures (c.loop-end.invariant.2 start begun taken i))
+    (going_more g.D.Desk.rules start begun (taken ++ take at piece) (reached_by g.D.Desk.world g.W.Write.contents c.loop-end.self) _
+    (rest_of at piece) plain refl refl c.add.ensures (c.loop-end.invariant.2 start begun taken i))

@@ -29,8 +29,11 @@ returns-clause-done g c =
     let now = sent_by g.W.Write.contents c.send_all.new.output in
     let Both : Type 0 = List (Command Denot) × List (Result (Reply Denot) Outage) in (
       replies,
-      subst (λ (cs : List (Command Denot)). AreApplied g.D.Desk.rules (g.D.Desk.world c.args.desk.now) cs replies (g.D.Desk.world c.apply_all.new.self)) c.deref.ensures.value c.apply_all.ensures.applies,
+      subst (λ (cs : List (Command Denot)).
+          AreApplied g.D.Desk.rules (g.D.Desk.world c.args.desk.now) cs replies (g.D.Desk.world c.apply_all.new.self)) c.deref.ensures.value
+          c.apply_all.ensures.applies,
       subst (λ (q : Both). OnOk c.send_all.result (Passes held now [] (texts (answers_for q.0 q.1)) [])) (λ j. (c.deref-2.ensures.value j, c.deref-3.ensures.value j)) c.send_all.ensures.ok,
-      subst (λ (q : Both). IfOk c.send_all.result (λ troubled. troubled ≡ list_any is_trouble (answers_for q.0 q.1))) (λ j. (c.deref-2.ensures.value j, c.deref-3.ensures.value j)) c.send_all.ensures.trouble,
+      subst (λ (q : Both). IfOk c.send_all.result (λ troubled. troubled ≡ list_any is_trouble (answers_for q.0 q.1)))
+          (λ j. (c.deref-2.ensures.value j, c.deref-3.ensures.value j)) c.send_all.ensures.trouble,
       subst (λ (q : Both). OnErr c.send_all.result (PassesPart held now (texts (answers_for q.0 q.1)))) (λ j. (c.deref-2.ensures.value j, c.deref-3.ensures.value j)) c.send_all.ensures.err,
     )

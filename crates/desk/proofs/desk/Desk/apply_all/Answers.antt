@@ -2,12 +2,13 @@ use Rattle.std.proofs.Common.{◌≡◌, ◌+◌, ◌++◌, [], ◌∷◌, List,
 use Rattle.std.specs.Prelude.{All, IfOk, Result}
 use Rattle.std.proofs.Math.Seq.{take-suc}
 use Rattle.std.proofs.lemmas.List.Elements.{All-push}
+use Rattle.base.proofs.Lists.{take_one}
 use Rattle.centre_core.specs.declared.command.Command.{Command}
 use Rattle.centre_core.specs.declared.reply.Reply.{Reply}
 use Rattle.desk.specs.declared.outage.Outage.{Outage}
 use Rattle.desk.specs.Replies.{HasShortPdu}
 use Rattle.desk.specs.Rules.{AreApplied}
-use Rattle.desk.proofs.InTurn.{applied_more, take_one}
+use Rattle.desk.proofs.InTurn.{applied_more}
 use Rattle.desk.proofs.desk.Desk.apply_all.Goals as goal
 
 pub loop-k-preserved : goal.loop-k-preserved

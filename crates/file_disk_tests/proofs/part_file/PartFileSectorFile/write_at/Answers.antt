@@ -10,6 +10,7 @@ returns-clause-effect g c at from is small fits within honest =
 pub returns-clause-sectors : goal.returns-clause-sectors
 returns-clause-sectors g c at count is many long within honest =
     let start : c.args.offset ≡ 512 * at + 0 = omega (arith, is) in
-    let part = written_as_file g.D.Disk.view c.args.self.now c.count.new.self at 0 c.args.bytes.now _ (rw c.count.ensures.disk (c.write_part-answer.ensures.effect at 0 start (omega arith) (omega (arith, many, within)) honest)) in
+    let part = written_as_file g.D.Disk.view c.args.self.now c.count.new.self at 0 c.args.bytes.now _
+    (rw c.count.ensures.disk (c.write_part-answer.ensures.effect at 0 start (omega arith) (omega (arith, many, within)) honest)) in
     sectors_in_part (part_view g.D.Disk.view c.args.self.now) (part_view g.D.Disk.view c.count.new.self) at count c.args.bytes.now _ honest
     (part_sound g.D.Disk.view c.args.self.now (g.met.D.Disk.sound c.args.self.now.disk honest)) many within c.write_part-answer.ensures.small part

@@ -1,4 +1,5 @@
-use Rattle.std.proofs.Common.{◌≡◌, length, ap, sym, arith}
+use Rattle.std.proofs.Common.{rules, ◌≡◌, ◌∙◌, length, ap, sym, arith}
+use Rattle.std.proofs.lemmas.Result.{err_from_is_err_and}
 use Rattle.gated_journal.specs.Record.{given}
 use Rattle.gated_journal.proofs.Given.{given_count}
 use Rattle.gated_journal.proofs.Written.{next_short}
@@ -10,15 +11,40 @@ append_text-requires-clause-some g c = let short = next_short _ (given g.row.A.D
 pub append_text-requires-clause-small : goal.append_text-requires-clause-small
 append_text-requires-clause-small g c = let short = next_short _ (given g.row.A.Denot c.args.commands.now) _ c.put_record.ensures.next in omega (arith, ap length c.as_slice.ensures, short.1)
 
-pub returns-in_err-append_text-clause-any_moment : goal.returns-in_err-append_text-clause-any_moment
-returns-in_err-append_text-clause-any_moment g c =
-    rw (← c.self.view_is) (λ before entries honest settled. c.append_text.ensures.any_moment before entries (given g.row.A.Denot c.args.commands.now) (rw c.as_slice.ensures c.put_record.ensures.next) honest settled)
+pub put_record-requires-clause-next : goal.put_record-requires-clause-next
+put_record-requires-clause-next g c = record {
+  some = c.requires.some;
+  few = c.requires.few;
+  number = rw c.self.view_is (omega (arith, c.requires.some, c.requires.counts));
+}
 
-pub returns-clause-any_moment : goal.returns-clause-any_moment
-returns-clause-any_moment g c =
-    rw (← c.self.view_is) (λ before entries honest settled. c.append_text.ensures.any_moment before entries (given g.row.A.Denot c.args.commands.now) (rw c.as_slice.ensures c.put_record.ensures.next) honest settled)
+pub returns-in_err-append_text-clause-adds : goal.returns-in_err-append_text-clause-adds
+returns-in_err-append_text-clause-adds g c =
+    let p = err_from_is_err_and c.from_residual.result c.from_residual.ensures.1 in
+    let adds = c.in_err-append_text.ensures.adds in
+    let text = c.as_slice.ensures ∙ c.put_record.ensures.items in
+    rw (← c.self.view_is, p.1) (record {
+      any_moment = λ before entries honest settled. adds.any_moment before entries (given g.row.A.Denot c.args.commands.now) (rw c.as_slice.ensures c.put_record.ensures.next) honest settled;
+      acknowledged = tt;
+      durable = λ honest. tt;
+      elsewhere = λ honest. tt;
+      next = tt;
+      calls = tt;
+      some_calls = rw text at adds.some_calls;
+    })
 
-pub returns-clause-acknowledged : goal.returns-clause-acknowledged
-returns-clause-acknowledged g c =
+pub returns-clause-adds : goal.returns-clause-adds
+returns-clause-adds g c =
     let count : length c.args.commands.now ≡ length (given g.row.A.Denot c.args.commands.now) = sym (given_count g.row.A.Denot c.args.commands.now) in
-    rw (← c.self.view_is, count) (λ before entries honest settled. c.in_ok-append_text.ensures.acknowledged before entries (given g.row.A.Denot c.args.commands.now) (rw c.as_slice.ensures c.put_record.ensures.next) honest settled)
+    let adds = c.in_ok-append_text.ensures.adds in
+    let text = c.as_slice.ensures ∙ c.put_record.ensures.items in
+    rw (← c.self.view_is) (record {
+      any_moment = λ before entries honest settled. adds.any_moment before entries (given g.row.A.Denot c.args.commands.now) (rw c.as_slice.ensures c.put_record.ensures.next) honest settled;
+      acknowledged = rw count (λ before entries honest settled. adds.acknowledged before entries (given g.row.A.Denot c.args.commands.now)
+          (rw c.as_slice.ensures c.put_record.ensures.next) honest settled);
+      durable = adds.durable;
+      elsewhere = adds.elsewhere;
+      next = search rules;
+      calls = rw text at adds.calls;
+      some_calls = rw text at adds.some_calls;
+    })

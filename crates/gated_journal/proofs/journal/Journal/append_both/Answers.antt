@@ -1,4 +1,5 @@
-use Rattle.std.proofs.Common.{◌≡◌, ◌≤◌, length, ap, sym, ◌∙◌, arith}
+use Rattle.std.proofs.Common.{rules, ◌≡◌, ◌≤◌, length, ap, sym, ◌∙◌, arith}
+use Rattle.std.proofs.lemmas.Result.{err_from_is_err_and}
 use Rattle.gated_journal.specs.Record.{data_size, given}
 use Rattle.gated_journal.specs.Settled.{room_of, text_at}
 use Rattle.gated_journal.proofs.Given.{given_count}
@@ -9,7 +10,8 @@ pub append_texts-requires-clause-small : goal.append_texts-requires-clause-small
 append_texts-requires-clause-small g c = let short = next_short _ (given g.row.A.Denot c.args.commands.now) _ c.put_record.ensures.next in omega (arith, ap length c.as_slice.ensures, short.1)
 
 pub append_texts-requires-clause-other_small : goal.append_texts-requires-clause-other_small
-append_texts-requires-clause-other_small g c = let short = next_short _ (given g.row.A.Denot c.args.commands.now) _ c.put_record-2.ensures.next in omega (arith, ap length c.as_slice-2.ensures, short.1)
+append_texts-requires-clause-other_small g c = let short = next_short _ (given g.row.A.Denot c.args.commands.now) _ c.put_record-2.ensures.next in
+    omega (arith, ap length c.as_slice-2.ensures, short.1)
 
 pub append_texts-requires-clause-fits : goal.append_texts-requires-clause-fits
 append_texts-requires-clause-fits g c =
@@ -25,18 +27,53 @@ append_texts-requires-clause-other_fits g c =
     let fit : data_size c.as_slice-2.result.now ≤ room_of c.args.other.now = rw is c.requires.other_fits in
     rw c.other.view_is (omega (arith, ap length c.as_slice-2.ensures, short.0, fit))
 
-pub returns-in_err-append_texts-clause-any_moment : goal.returns-in_err-append_texts-clause-any_moment
-returns-in_err-append_texts-clause-any_moment g c =
-    rw (← c.self.view_is, ← c.other.view_is) (λ before start entries others honest settled also. c.append_texts.ensures.any_moment before start entries others (given g.row.A.Denot c.args.commands.now)
-    (rw c.as_slice.ensures c.put_record.ensures.next) (rw c.as_slice-2.ensures c.put_record-2.ensures.next) honest settled also)
+pub put_record-requires-clause-next : goal.put_record-requires-clause-next
+put_record-requires-clause-next g c = record {
+  some = c.requires.some;
+  few = c.requires.few;
+  number = rw c.self.view_is (omega (arith, c.requires.some, c.requires.counts));
+}
 
-pub returns-clause-any_moment : goal.returns-clause-any_moment
-returns-clause-any_moment g c =
-    rw (← c.self.view_is, ← c.other.view_is) (λ before start entries others honest settled also. c.append_texts.ensures.any_moment before start entries others (given g.row.A.Denot c.args.commands.now)
-    (rw c.as_slice.ensures c.put_record.ensures.next) (rw c.as_slice-2.ensures c.put_record-2.ensures.next) honest settled also)
+pub put_record-requires-2-clause-next : goal.put_record-requires-2-clause-next
+put_record-requires-2-clause-next g c = record {
+  some = c.requires.some;
+  few = c.requires.few;
+  number = rw c.other.view_is (omega (arith, c.requires.some, c.requires.other_counts));
+}
 
-pub returns-clause-acknowledged : goal.returns-clause-acknowledged
-returns-clause-acknowledged g c =
+pub returns-in_err-append_texts-clause-adds : goal.returns-in_err-append_texts-clause-adds
+returns-in_err-append_texts-clause-adds g c =
+    let p = err_from_is_err_and c.from_residual.result c.from_residual.ensures.1 in
+    let adds = c.in_err-append_texts.ensures.adds in
+    let text = c.as_slice.ensures ∙ c.put_record.ensures.items in
+    let other_text = c.as_slice-2.ensures ∙ c.put_record-2.ensures.items in
+    rw (← c.self.view_is, ← c.other.view_is, p.1) (record {
+      any_moment = λ before start entries others honest settled also. adds.any_moment before start entries others (given g.row.A.Denot c.args.commands.now)
+          (rw c.as_slice.ensures c.put_record.ensures.next) (rw c.as_slice-2.ensures c.put_record-2.ensures.next) honest settled also;
+      acknowledged = tt;
+      durable = λ honest. tt;
+      elsewhere = λ honest. tt;
+      next = tt;
+      other_next = tt;
+      calls = tt;
+      some_calls = rw (text, other_text) at adds.some_calls;
+    })
+
+pub returns-clause-adds : goal.returns-clause-adds
+returns-clause-adds g c =
     let count : length c.args.commands.now ≡ length (given g.row.A.Denot c.args.commands.now) = sym (given_count g.row.A.Denot c.args.commands.now) in
-    rw (← c.self.view_is, ← c.other.view_is, count) (λ before start entries others honest settled also. c.in_ok-append_texts.ensures.acknowledged before start entries others (given g.row.A.Denot c.args.commands.now)
-    (rw c.as_slice.ensures c.put_record.ensures.next) (rw c.as_slice-2.ensures c.put_record-2.ensures.next) honest settled also)
+    let adds = c.in_ok-append_texts.ensures.adds in
+    let text = c.as_slice.ensures ∙ c.put_record.ensures.items in
+    let other_text = c.as_slice-2.ensures ∙ c.put_record-2.ensures.items in
+    rw (← c.self.view_is, ← c.other.view_is) (record {
+      any_moment = λ before start entries others honest settled also. adds.any_moment before start entries others (given g.row.A.Denot c.args.commands.now)
+          (rw c.as_slice.ensures c.put_record.ensures.next) (rw c.as_slice-2.ensures c.put_record-2.ensures.next) honest settled also;
+      acknowledged = rw count (λ before start entries others honest settled also. adds.acknowledged before start entries others (given g.row.A.Denot c.args.commands.now)
+          (rw c.as_slice.ensures c.put_record.ensures.next) (rw c.as_slice-2.ensures c.put_record-2.ensures.next) honest settled also);
+      durable = adds.durable;
+      elsewhere = adds.elsewhere;
+      next = search rules;
+      other_next = search rules;
+      calls = rw (text, other_text) at adds.calls;
+      some_calls = rw (text, other_text) at adds.some_calls;
+    })

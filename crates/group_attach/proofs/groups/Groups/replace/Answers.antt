@@ -14,7 +14,8 @@ restore-requires-clause-some g c =
 pub invariant_of-self-in-Err : goal.invariant_of-self-in-Err
 invariant_of-self-in-Err g c =
     c.in-Err.ensures.err ∙ c.self.invariant
-    ∙ sym (put_back c.self.inside.by_radio c.set.new.self c.restore.new.self c.args.list (held c.in_ok-before.before) c.args.itsi c.in_ok-before.ensures.before c.in_ok-before.ensures.ok c.restore.ensures)
+    ∙ sym (put_back c.self.inside.by_radio c.set.new.self c.restore.new.self c.args.list (held c.in_ok-before.before) c.args.itsi
+    c.in_ok-before.ensures.before c.in_ok-before.ensures.ok c.restore.ensures)
 
 pub returns-in-Err-clause-err : goal.returns-in-Err-clause-err
 returns-in-Err-clause-err g c =

@@ -10,5 +10,7 @@ replace-requires g c = subst (λ l. AllHave (λ pair. pair.0) c.args.itsi l) (sy
 
 pub returns-clause-ok : goal.returns-clause-ok
 returns-clause-ok g c =
-    let done : OnOk c.replace.result (c.replace.new.self ≡ restored c.args.self.now c.args.itsi c.args.attachments.now) = restored_ok c.replace.result c.args.self.now _ c.in-Ok.list c.args.attachments.now c.args.itsi c.requires.in_order c.requires.own c.in-Ok.ensures c.replace.ensures.ok in
+    let done : OnOk c.replace.result (c.replace.new.self ≡ restored c.args.self.now c.args.itsi c.args.attachments.now) =
+    restored_ok c.replace.result c.args.self.now _ c.in-Ok.list c.args.attachments.now c.args.itsi c.requires.in_order c.requires.own
+    c.in-Ok.ensures c.replace.ensures.ok in
     search (rules, done, c.or.ensures)

@@ -19,5 +19,6 @@ returns-clause-ok g c =
       | then-self-le-IN_PLACE+in_ok-spill w ↦ rw (w.self-inside-is, sum)
           (spilt_same b.len c.args.width c.args.value b.short b.bytes.items w.spill.new.bytes.items c.args.self.now c.self.view_is w.if-self-le-IN_PLACE.true more w.in_ok-spill.ensures.bits)
       | else-self-le-IN_PLACE+in_ok-append_bits w ↦ rw (w.self-inside-is, sum)
-          (appended_same b.len c.args.width c.args.value b.short b.bytes.items w.append_bits.new.bytes.items c.args.self.now c.self.view_is w.if-self-le-IN_PLACE.false w.in_ok-append_bits.ensures.bits)
+          (appended_same b.len c.args.width c.args.value b.short b.bytes.items w.append_bits.new.bytes.items c.args.self.now c.self.view_is
+          w.if-self-le-IN_PLACE.false w.in_ok-append_bits.ensures.bits)
     ]

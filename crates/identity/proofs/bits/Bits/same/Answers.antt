@@ -9,7 +9,8 @@ returns-then-self-other-clause-equal g c =
     let x = c.args.self.now in let y = c.args.other.now in
     let one = is_len c.self.inside.len c.self.inside.short c.self.inside.bytes.items x c.self.invariant c.self.view_is in
     let other = is_len c.other.inside.len c.other.inside.short c.other.inside.bytes.items y c.other.invariant c.other.view_is in
-    by_bytes c.as_bytes.result.now c.as_bytes-then-self-other.result.now (length x) (length y) x y c.as_bytes.ensures.packed c.as_bytes-then-self-other.ensures.packed c.as_bytes.ensures.bits c.as_bytes-then-self-other.ensures.bits
+    by_bytes c.as_bytes.result.now c.as_bytes-then-self-other.result.now (length x) (length y) x y c.as_bytes.ensures.packed
+    c.as_bytes-then-self-other.ensures.packed c.as_bytes.ensures.bits c.as_bytes-then-self-other.ensures.bits
     c.same_bytes.result (sym one ∙ c.if-self-other.true ∙ other) c.same_bytes.ensures
 
 pub returns-then-self-other-clause-test : goal.returns-then-self-other-clause-test

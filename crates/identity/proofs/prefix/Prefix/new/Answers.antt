@@ -3,7 +3,8 @@ use Rattle.std.proofs.lemmas.Bool.Decides.{nat_tests}
 use Rattle.std.proofs.lemmas.Nat.{one_shl}
 use mathlib.Core.Bool.{false≢true}
 use Rattle.identity.proofs.Prefixes.{rest_if, rest_then}
-use Rattle.identity.proofs.prefix.Prefix.new.Goals.{else-len-le48-via-then-len-le48+then-bits-lt-IDENTITIES+else-bits-len-eq0, else-len-le48-via-then-len-le48+else-bits-lt-IDENTITIES, else-len-le48-via-else-len-le48}
+use Rattle.identity.proofs.prefix.Prefix.new.Goals.{else-len-le48-via-then-len-le48+then-bits-lt-IDENTITIES+else-bits-len-eq0}
+use Rattle.identity.proofs.prefix.Prefix.new.Goals.{else-len-le48-via-then-len-le48+else-bits-lt-IDENTITIES, else-len-le48-via-else-len-le48}
 use Rattle.identity.proofs.prefix.Prefix.new.Goals as goal
 
 pub returns-then-bits-len-eq0-clause-fits : goal.returns-then-bits-len-eq0-clause-fits

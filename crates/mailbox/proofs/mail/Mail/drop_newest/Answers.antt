@@ -8,5 +8,7 @@ invariant_of-self-2 g c =
 
 pub returns : goal.returns
 returns g c =
-    let is = filed_in_order _ _ _ (filed_dropped _ c.self.inside.boxes c.remove_at.new.self c.self.inside.order c.pop.new.self c.in-Some.place c.self.invariant c.in-Some.ensures c.remove_at.ensures.left) in
+    let is = filed_in_order _ _ _
+    (filed_dropped _ c.self.inside.boxes c.remove_at.new.self c.self.inside.order c.pop.new.self c.in-Some.place c.self.invariant
+    c.in-Some.ensures c.remove_at.ensures.left) in
     rw (← c.self.view_is) (λ i. record { room = c.self.inside.room; items = is i })

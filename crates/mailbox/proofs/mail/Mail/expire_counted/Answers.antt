@@ -22,7 +22,8 @@ loop-place-preserved g c =
       omega (arith, fewer, within),
       λ height above.
           let now = above_fewer height c.args.self.now c.loop-place.self within above in
-          one_more_gone height (length c.args.self.now.items) (length c.loop-place.self.items) (length c.remove_counted.new.self.items) _ _ _ _ fewer within (c.loop-place.invariant.2 height above) (c.in-Some.ensures.cost height now) (c.remove_counted.ensures.cost height now),
+          one_more_gone height (length c.args.self.now.items) (length c.loop-place.self.items) (length c.remove_counted.new.self.items) _ _ _ _ fewer
+          within (c.loop-place.invariant.2 height above) (c.in-Some.ensures.cost height now) (c.remove_counted.ensures.cost height now),
     )
 
 pub returns-clause-items : goal.returns-clause-items

@@ -15,9 +15,12 @@ returns-then-is_none g c =
     let e = c.args.envelope.now in
     let m = c.args.self.now in
     let all : crowd_refusal m.room (length c.args.at_destination.now + 1) (length m.items + 1) ≡ None =
-    (λ i. crowd_refusal (sym c.room.ensures i) (length c.args.at_destination.now + 1) (sym c.len.ensures i + 1)) ∙ sym c.crowd_refusal.ensures ∙ none_if c.crowd_refusal.result (none_test c.crowd_refusal.result _ true c.is_none.ensures c.if-is_none.true) in
+    (λ i. crowd_refusal (sym c.room.ensures i) (length c.args.at_destination.now + 1) (sym c.len.ensures i + 1)) ∙ sym c.crowd_refusal.ensures ∙
+    none_if c.crowd_refusal.result (none_test c.crowd_refusal.result _ true c.is_none.ensures c.if-is_none.true) in
     let for_one : count_by (is_to e.destination) (filter (λ w. not (is_ended_by e c.args.status w)) m.items) ≤ length c.args.at_destination.now =
-    subst (λ n. n ≤ length c.args.at_destination.now) (ap (λ ws. length (filter (λ w. not (is_ended_by e c.args.status w)) ws)) c.requires.destination ∙ left_waiting m e c.args.status) (no_longer (λ w. not (is_ended_by e c.args.status w)) c.args.at_destination.now) in
+    subst (λ n. n ≤ length c.args.at_destination.now)
+    (ap (λ ws. length (filter (λ w. not (is_ended_by e c.args.status w)) ws)) c.requires.destination ∙ left_waiting m e c.args.status)
+    (no_longer (λ w. not (is_ended_by e c.args.status w)) c.args.at_destination.now) in
     let in_all = no_longer (λ w. not (is_ended_by e c.args.status w)) m.items in
     fewer_fit m.room _ _ _ _ all (omega (arith, for_one)) (omega (arith, in_all))
 

@@ -11,12 +11,18 @@ use Rattle.mailbox.proofs.mail.Mail.item_refusal.Goals as goal
 
 pub returns-then-any_at : goal.returns-then-any_at
 returns-then-any_at g c =
-    let held : holds c.args.self.now c.args.key.now ≡ true = sym (c.any_at.ensures ∙ ap (list_any (is_at c.args.key.now)) c.requires ∙ holds_waiting c.args.self.now c.args.key.now) ∙ c.if-any_at.true in
-    ap (λ b. option_or (if b then Some ReferenceBusy else None) (crowd_refusal c.args.self.now.room (count_by (is_to c.args.key.now.destination) c.args.self.now.items + 1) (length c.args.self.now.items + 1))) (sym held)
+    let held : holds c.args.self.now c.args.key.now ≡ true =
+    sym (c.any_at.ensures ∙ ap (list_any (is_at c.args.key.now)) c.requires ∙ holds_waiting c.args.self.now c.args.key.now) ∙ c.if-any_at.true in
+    ap (λ b. option_or (if b then Some ReferenceBusy else None)
+    (crowd_refusal c.args.self.now.room (count_by (is_to c.args.key.now.destination) c.args.self.now.items + 1) (length c.args.self.now.items + 1)))
+    (sym held)
 
 pub returns : goal.returns
 returns g c =
-    let free : holds c.args.self.now c.args.key.now ≡ false = sym (c.any_at.ensures ∙ ap (list_any (is_at c.args.key.now)) c.requires ∙ holds_waiting c.args.self.now c.args.key.now) ∙ c.if-any_at.false in
+    let free : holds c.args.self.now c.args.key.now ≡ false =
+    sym (c.any_at.ensures ∙ ap (list_any (is_at c.args.key.now)) c.requires ∙ holds_waiting c.args.self.now c.args.key.now) ∙ c.if-any_at.false in
     let counted : length c.args.items.now ≡ count_by (is_to c.args.key.now.destination) c.args.self.now.items = ap length c.requires ∙ count_waiting c.args.self.now c.args.key.now.destination in
     c.crowd_refusal.ensures ∙ (λ i. crowd_refusal (c.room.ensures i) (counted i + 1) (c.len.ensures i + 1))
-    ∙ ap (λ b. option_or (if b then Some ReferenceBusy else None) (crowd_refusal c.args.self.now.room (count_by (is_to c.args.key.now.destination) c.args.self.now.items + 1) (length c.args.self.now.items + 1))) (sym free)
+    ∙ ap (λ b. option_or (if b then Some ReferenceBusy else None)
+    (crowd_refusal c.args.self.now.room (count_by (is_to c.args.key.now.destination) c.args.self.now.items + 1) (length c.args.self.now.items + 1)))
+    (sym free)

@@ -11,4 +11,5 @@ put_copy-requires g c = λ here.
     let w = c.args.original.now in
     let k = (addressed w c.member-item.result).key in
     subst (λ (m : Mailed). ComesLast m w.number k × (holds m k ≡ false)) (sym c.loop-member.invariant)
-    (next_is_new w (is_receiver c.args.registry.now w.key.source) c.args.self.now c.args.members.now c.loop-member.member-index c.member-item.result c.requires.rising c.requires.newest c.requires.free c.loop-member-test.true c.member-item.is here)
+    (next_is_new w (is_receiver c.args.registry.now w.key.source) c.args.self.now c.args.members.now c.loop-member.member-index c.member-item.result
+    c.requires.rising c.requires.newest c.requires.free c.loop-member-test.true c.member-item.is here)

@@ -19,20 +19,32 @@ remove_counted-requires g c = places_rise _ c.self.inside.order c.self.invariant
 
 pub invariant_of-self : goal.invariant_of-self
 invariant_of-self g c =
-    filed_again _ _ _ (filed_removed _ c.self.inside.boxes c.remove_at.new.self c.self.inside.order c.remove_counted.new.self c.args.key.now c.self.invariant c.remove_at.ensures.left (c.remove_counted.ensures.places ∙ place_removed _ c.self.inside.boxes c.self.inside.order c.args.key.now c.self.invariant c.in-Some.place c.in-Some.ensures.place))
+    filed_again _ _ _ (filed_removed _ c.self.inside.boxes c.remove_at.new.self c.self.inside.order c.remove_counted.new.self c.args.key.now
+    c.self.invariant c.remove_at.ensures.left
+    (c.remove_counted.ensures.places ∙ place_removed _ c.self.inside.boxes c.self.inside.order c.args.key.now c.self.invariant c.in-Some.place
+    c.in-Some.ensures.place))
 
 pub returns-in-Some-clause-items : goal.returns-in-Some-clause-items
 returns-in-Some-clause-items g c =
-    let is = filed_in_order _ _ _ (filed_removed _ c.self.inside.boxes c.remove_at.new.self c.self.inside.order c.remove_counted.new.self c.args.key.now c.self.invariant c.remove_at.ensures.left (c.remove_counted.ensures.places ∙ place_removed _ c.self.inside.boxes c.self.inside.order c.args.key.now c.self.invariant c.in-Some.place c.in-Some.ensures.place)) in
+    let is = filed_in_order _ _ _
+    (filed_removed _ c.self.inside.boxes c.remove_at.new.self c.self.inside.order c.remove_counted.new.self c.args.key.now c.self.invariant
+    c.remove_at.ensures.left
+    (c.remove_counted.ensures.places ∙ place_removed _ c.self.inside.boxes c.self.inside.order c.args.key.now c.self.invariant c.in-Some.place
+    c.in-Some.ensures.place)) in
     rw (← c.self.view_is) (λ i. record { room = c.self.inside.room; items = is i })
 
 pub invariant_of-self-in_default : goal.invariant_of-self-in_default
 invariant_of-self-in_default g c =
-    filed_again _ _ _ (filed_removed _ c.self.inside.boxes c.remove_at.new.self c.self.inside.order c.self.inside.order c.args.key.now c.self.invariant c.remove_at.ensures.left (none_left_out _ c.self.inside.boxes c.self.inside.order c.args.key.now c.self.invariant c.in_default.ensures.place))
+    filed_again _ _ _ (filed_removed _ c.self.inside.boxes c.remove_at.new.self c.self.inside.order c.self.inside.order c.args.key.now
+    c.self.invariant c.remove_at.ensures.left
+    (none_left_out _ c.self.inside.boxes c.self.inside.order c.args.key.now c.self.invariant c.in_default.ensures.place))
 
 pub returns-in_default-clause-items : goal.returns-in_default-clause-items
 returns-in_default-clause-items g c =
-    let is = filed_in_order _ _ _ (filed_removed _ c.self.inside.boxes c.remove_at.new.self c.self.inside.order c.self.inside.order c.args.key.now c.self.invariant c.remove_at.ensures.left (none_left_out _ c.self.inside.boxes c.self.inside.order c.args.key.now c.self.invariant c.in_default.ensures.place)) in
+    let is = filed_in_order _ _ _
+    (filed_removed _ c.self.inside.boxes c.remove_at.new.self c.self.inside.order c.self.inside.order c.args.key.now c.self.invariant
+    c.remove_at.ensures.left (none_left_out _ c.self.inside.boxes c.self.inside.order c.args.key.now c.self.invariant c.in_default.ensures.place))
+    in
     rw (← c.self.view_is) (λ i. record { room = c.self.inside.room; items = is i })
 
 pub returns-in-Some-clause-cost : goal.returns-in-Some-clause-cost

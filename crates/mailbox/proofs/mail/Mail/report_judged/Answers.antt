@@ -1,6 +1,7 @@
 use Rattle.std.proofs.Common.{◌≡◌, sym, ap, subst, ◌∙◌}
 use Rattle.std.specs.List.{find, list_any}
 use Rattle.std.specs.Option.{option_map}
+use Rattle.base.proofs.Results.{on_err}
 use Rattle.mailbox.specs.declared.key.Key.{Key}
 use Rattle.mailbox.specs.declared.key.Kind.TheVariants.{Message, Report}
 use Rattle.mailbox.specs.declared.opening.ReportOpening.{ReportOpening}
@@ -9,7 +10,6 @@ use Rattle.mailbox.specs.Item.{key_of, answered, is_at, is_reported}
 use Rattle.mailbox.specs.Order.{ComesLast, place_of}
 use Rattle.mailbox.specs.Mail.{holds, without, reported}
 use Rattle.mailbox.specs.Judged.{none_waits, waits_alone}
-use Rattle.mailbox.proofs.Results.{known_err}
 use Rattle.mailbox.proofs.Effects.{reported_then, still_ends, still_alone}
 use Rattle.mailbox.proofs.mail.Mail.report_judged.Goals as goal
 
@@ -31,13 +31,14 @@ put-requires-clause-first g c =
 pub returns-in_err-put-clause-memory : goal.returns-in_err-put-clause-memory
 returns-in_err-put-clause-memory g c =
     let at : c.item_in.result.key ≡ key_of c.args.envelope.now Report = ap (λ (w : Item). w.key) c.item_in.ensures ∙ ap (λ (o : ReportOpening). o.opening.key) c.requires.found in
-    known_err c.from_residual.result (ap (holds c.args.self.now) (sym at) ∙ c.in_err-put.ensures.memory)
+    on_err c.from_residual.result (ap (holds c.args.self.now) (sym at) ∙ c.in_err-put.ensures.memory)
 
 pub remove_reported-requires-clause-ends : goal.remove_reported-requires-clause-ends
 remove_reported-requires-clause-ends g c =
     let at : c.item_in.result.key ≡ key_of c.args.envelope.now Report = ap (λ (w : Item). w.key) c.item_in.ensures ∙ ap (λ (o : ReportOpening). o.opening.key) c.requires.found in
     ap (λ (o : ReportOpening). o.ends) c.requires.found
-    ∙ sym (ap (λ (m : Mailed). list_any (is_reported c.args.envelope.now c.args.status) m.items) c.in_ok-put.ensures.ok ∙ still_ends c.args.self.now c.args.envelope.now c.args.status c.item_in.result at)
+    ∙ sym (ap (λ (m : Mailed). list_any (is_reported c.args.envelope.now c.args.status) m.items) c.in_ok-put.ensures.ok ∙
+    still_ends c.args.self.now c.args.envelope.now c.args.status c.item_in.result at)
 
 pub remove_reported-requires-clause-alone : goal.remove_reported-requires-clause-alone
 remove_reported-requires-clause-alone g c alone =

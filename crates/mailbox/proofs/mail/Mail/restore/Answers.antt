@@ -6,7 +6,9 @@ use Rattle.mailbox.specs.Refusals.{restore_refusal}
 use Rattle.mailbox.proofs.Sound.{not_taken}
 use Rattle.mailbox.proofs.mail.Mail.restore.Goals as goal
 
-judged : (m : Mailed) (w : Item) (k : Key) (r : Option MailFault) → ((number deadline : ℕ) (pdu : List Bool) (group : Option ℕ) → r ≡ restore_refusal m (record { key = k; number = number; deadline = deadline; pdu = pdu; group = group })) → k ≡ w.key → r ≡ restore_refusal m w
+judged : (m : Mailed) (w : Item) (k : Key) (r : Option MailFault) →
+    ((number deadline : ℕ) (pdu : List Bool) (group : Option ℕ) →
+    r ≡ restore_refusal m (record { key = k; number = number; deadline = deadline; pdu = pdu; group = group })) → k ≡ w.key → r ≡ restore_refusal m w
 judged m w k r is key = is w.number w.deadline w.pdu w.group ∙ ap (λ at. restore_refusal m (record { key = at; number = w.number; deadline = w.deadline; pdu = w.pdu; group = w.group })) key
 
 pub put_new-requires-clause-free : goal.put_new-requires-clause-free

@@ -39,7 +39,9 @@ pub change-returns-then-side-clause-sound : goal.change-returns-then-side-clause
 change-returns-then-side-clause-sound g t c = sound_with_one c.self.inside _ c.self.view_is c.requires.sound _ (c.change_below.ensures.under _ (fits c.self.inside _ c.self.view_is c.requires.sound).1)
 
 pub change-returns-else-side-clause-sound : goal.change-returns-else-side-clause-sound
-change-returns-else-side-clause-sound g t c = sound_with_zero c.self.inside _ c.self.view_is c.requires.sound _ (c.change_below-else-side.ensures.under _ (fits c.self.inside _ c.self.view_is c.requires.sound).0)
+change-returns-else-side-clause-sound g t c =
+    sound_with_zero c.self.inside _ c.self.view_is c.requires.sound _
+    (c.change_below-else-side.ensures.under _ (fits c.self.inside _ c.self.view_is c.requires.sound).0)
 
 pub change-returns-then-side-clause-cost : goal.change-returns-then-side-clause-cost
 change-returns-then-side-clause-cost g t c =

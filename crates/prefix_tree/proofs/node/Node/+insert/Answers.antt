@@ -1,8 +1,10 @@
 use Rattle.std.proofs.Common.{[], true, false, sym, ap, ◌∙◌, arith, rules}
 use Rattle.std.proofs.lemmas.Bool.Decides.{nat_tests}
 use Rattle.std.proofs.lemmas.Result.{on_ok_weaker, IfOk-weaker, IfErr-weaker}
+use Rattle.base.proofs.Options.{none_there}
 use Rattle.prefix_tree.specs.Inside.Around.{around, table_of, IsUnder}
-use Rattle.prefix_tree.proofs.NodeLaws.{fits, whole_key, longer_key, side_is, read_at, read_zero, read_one, write_here, into_zero, into_one, is_there, not_there, off_link, on_link, same_box, firm_node, firm_after, begins_box}
+use Rattle.prefix_tree.proofs.NodeLaws.{fits, whole_key, longer_key, side_is, read_at, read_zero, read_one, write_here, into_zero, into_one, is_there}
+use Rattle.prefix_tree.proofs.NodeLaws.{off_link, on_link, same_box, firm_node, firm_after, begins_box}
 use Rattle.prefix_tree.proofs.StepLaws.{turn, zero_any, one_any, still_sound, sound_with_zero, sound_with_one}
 use Rattle.prefix_tree.proofs.node.Node.+insert.Goals as goal
 
@@ -55,7 +57,7 @@ pub insert_below-returns-then-not-leads-clause-before : goal.insert_below-return
 insert_below-returns-then-not-leads-clause-before g t c = IfOk-weaker c.grow.result _ _ (λ x e. e ∙ sym (off_link _ _ _ c.requires (sym c.leads.ensures ∙ c.if-not-leads.true))) c.grow.ensures.before
 
 pub insert_below-returns-then-not-leads-clause-overwrite_succeeds : goal.insert_below-returns-then-not-leads-clause-overwrite_succeeds
-insert_below-returns-then-not-leads-clause-overwrite_succeeds g t c some = absurd (not_there (off_link _ _ _ c.requires (sym c.leads.ensures ∙ c.if-not-leads.true)) some)
+insert_below-returns-then-not-leads-clause-overwrite_succeeds g t c some = absurd (none_there (off_link _ _ _ c.requires (sym c.leads.ensures ∙ c.if-not-leads.true)) some)
 
 pub insert_below-returns-clause-err : goal.insert_below-returns-clause-err
 insert_below-returns-clause-err g t c = IfErr-weaker c.insert.result _ _ (λ x e. (e.0, same_box _ c.in-Some.node _ _ c.in-Some.is e.1 c.deref_mut.ensures.value)) c.insert.ensures.err
@@ -77,8 +79,12 @@ insert-insert_below-requires-else-side g t c κs within = let under : IsUnder []
 
 pub insert-returns-then-side-clause-sound : goal.insert-returns-then-side-clause-sound
 insert-returns-then-side-clause-sound g t c =
-    sound_with_one c.self.inside _ c.self.view_is c.requires.sound _ (c.insert_below.ensures.under _ (fits c.self.inside _ c.self.view_is c.requires.sound).1 (turn c.self.inside.at c.args.key.now _ _ c.if-side.true c.side.ensures))
+    sound_with_one c.self.inside _ c.self.view_is c.requires.sound _
+    (c.insert_below.ensures.under _ (fits c.self.inside _ c.self.view_is c.requires.sound).1
+    (turn c.self.inside.at c.args.key.now _ _ c.if-side.true c.side.ensures))
 
 pub insert-returns-else-side-clause-sound : goal.insert-returns-else-side-clause-sound
 insert-returns-else-side-clause-sound g t c =
-    sound_with_zero c.self.inside _ c.self.view_is c.requires.sound _ (c.insert_below-else-side.ensures.under _ (fits c.self.inside _ c.self.view_is c.requires.sound).0 (turn c.self.inside.at c.args.key.now _ _ c.if-side.false c.side.ensures))
+    sound_with_zero c.self.inside _ c.self.view_is c.requires.sound _
+    (c.insert_below-else-side.ensures.under _ (fits c.self.inside _ c.self.view_is c.requires.sound).0
+    (turn c.self.inside.at c.args.key.now _ _ c.if-side.false c.side.ensures))

@@ -27,7 +27,8 @@ pub nodes-returns-clause-few : goal.nodes-returns-clause-few
 nodes-returns-clause-few g t c = few_nodes c.self.inside _ c.self.view_is c.requires _ _ c.nodes_below.ensures.few c.nodes_below-2.ensures.few
 
 pub nodes-returns-clause-full : goal.nodes-returns-clause-full
-nodes-returns-clause-full g t c full = full_nodes c.self.inside _ c.self.view_is c.requires _ _ full c.nodes_below.ensures.few c.nodes_below-2.ensures.few c.nodes_below.ensures.full c.nodes_below-2.ensures.full
+nodes-returns-clause-full g t c full = full_nodes c.self.inside _ c.self.view_is c.requires _ _ full c.nodes_below.ensures.few
+    c.nodes_below-2.ensures.few c.nodes_below.ensures.full c.nodes_below-2.ensures.full
 
 pub nodes-returns-clause-fits : goal.nodes-returns-clause-fits
 nodes-returns-clause-fits g t c =

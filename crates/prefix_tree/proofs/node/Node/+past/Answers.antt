@@ -3,9 +3,10 @@ use Rattle.prefix_tree.specs.Inside.Around.{IsUnder}
 use Rattle.prefix_tree.proofs.CountLaws.{length_push}
 use Rattle.prefix_tree.proofs.StepLaws.{zero_any, one_any}
 use Rattle.std.specs.Ordering.{is_lt}
+use Rattle.base.proofs.Options.{if_none}
 use Rattle.identity.specs.Path.{begins, path_cmp}
 use Rattle.prefix_tree.proofs.NodeLaws.{at_is, at_box, fits}
-use Rattle.prefix_tree.proofs.NextLaws.{past_zero, past_via_one, past_then_one, none_past, past_ahead, past_after, first_is_there, longer_below, if_none}
+use Rattle.prefix_tree.proofs.NextLaws.{past_zero, past_via_one, past_then_one, none_past, past_ahead, past_after, first_is_there, longer_below}
 use Rattle.prefix_tree.proofs.node.Node.+past.Goals as goal
 
 pub past-returns-in-Some-clause-found : goal.past-returns-in-Some-clause-found
@@ -20,7 +21,8 @@ past-returns-in-Some-clause-cost g t c =
 
 pub past-returns-in-None-clause-found : goal.past-returns-in-None-clause-found
 past-returns-in-None-clause-found g t c =
-    past_then_one c.self.inside _ c.self.view_is c.requires.sound _ c.requires.within (sym c.goes_on_with_one.ensures ∙ c.if-goes_on_with_one.false) _ c.in-None.ensures.found c.first_below.ensures.found
+    past_then_one c.self.inside _ c.self.view_is c.requires.sound _ c.requires.within (sym c.goes_on_with_one.ensures ∙ c.if-goes_on_with_one.false) _
+    c.in-None.ensures.found c.first_below.ensures.found
 
 pub past-returns-in-None-clause-cost : goal.past-returns-in-None-clause-cost
 past-returns-in-None-clause-cost g t c =
@@ -54,7 +56,8 @@ past-returns-then-goes_on_with_one-clause-none g t c =
     let at = ap length (at_is c.self.inside _ c.self.view_is) in
     let one = length_push c.self.inside.at true in
     if_none c.past_below.result
-    (λ least. let few = least _ (fits c.self.inside _ c.self.view_is c.requires.sound).1 (omega (arith, one, c.len.ensures.value, c.len.ensures.at_most_48)) in omega (arith, at, one, few, c.tick.ensures))
+    (λ least. let few = least _ (fits c.self.inside _ c.self.view_is c.requires.sound).1
+    (omega (arith, one, c.len.ensures.value, c.len.ensures.at_most_48)) in omega (arith, at, one, few, c.tick.ensures))
     c.past_below.ensures.none
 
 pub past_below-returns-in_default-clause-found : goal.past_below-returns-in_default-clause-found

@@ -19,7 +19,9 @@ pub push_entries-returns : goal.push_entries-returns
 push_entries-returns g t c = on_ok_weaker c.push_below-2.result (walk_node c.self.inside _ c.self.view_is c.requires _ _ _ _ c.in_ok-push_own.ensures c.in_ok-push_below.ensures) c.push_below-2.ensures
 
 pub push_below-returns-in-Some : goal.push_below-returns-in-Some
-push_below-returns-in-Some g t c = on_ok_weaker c.push_entries.result (λ e. e ∙ ap (λ m. seen c.args.out.now.items ++ map.entries m) (table_after _ _ _ c.in-Some.is c.deref.ensures)) c.push_entries.ensures
+push_below-returns-in-Some g t c =
+    on_ok_weaker c.push_entries.result
+    (λ e. e ∙ ap (λ m. seen c.args.out.now.items ++ map.entries m) (table_after _ _ _ c.in-Some.is c.deref.ensures)) c.push_entries.ensures
 
 pub push_below-returns-in-None : goal.push_below-returns-in-None
 push_below-returns-in-None g t c = none_added _ _ (none_entries _ c.in-None.is)

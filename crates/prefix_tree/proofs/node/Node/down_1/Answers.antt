@@ -27,7 +27,11 @@ returns-else-not-visit g c =
     let step = visits_one c.self.inside _ c.self.view_is c.requires.sound _ side in
     let on = sym c.visit.ensures.value ∙ c.if-not-visit.false in
     let ways = one_ways c.self.inside _ c.self.view_is c.requires.sound c.as_mut.result c.args.key.now c.as_mut.ensures.value on in (
-      (refl, λ w. one_borrowed c.self.inside _ c.self.view_is c.requires.sound c.as_mut.result c.as_mut.ensures.value w, (table_is c.self.inside _ c.self.view_is, same_like c.self.inside _ c.self.view_is c.requires.sound)),
+      (
+        refl,
+        λ w. one_borrowed c.self.inside _ c.self.view_is c.requires.sound c.as_mut.result c.as_mut.ensures.value w,
+        (table_is c.self.inside _ c.self.view_is, same_like c.self.inside _ c.self.view_is c.requires.sound),
+      ),
       record {
         writes_back = tt;
         on_way = ways;
@@ -61,13 +65,18 @@ returns-else-not-visit-2 g c =
     let step = visits_zero c.self.inside _ c.self.view_is c.requires.sound _ side in
     let on = sym c.visit-else-side.ensures.value ∙ c.if-not-visit-2.false in
     let ways = zero_ways c.self.inside _ c.self.view_is c.requires.sound c.as_mut-else-side.result c.args.key.now c.as_mut-else-side.ensures.value on in (
-      (refl, λ w. zero_borrowed c.self.inside _ c.self.view_is c.requires.sound c.as_mut-else-side.result c.as_mut-else-side.ensures.value w, (table_is c.self.inside _ c.self.view_is, same_like c.self.inside _ c.self.view_is c.requires.sound)),
+      (
+        refl,
+        λ w. zero_borrowed c.self.inside _ c.self.view_is c.requires.sound c.as_mut-else-side.result c.as_mut-else-side.ensures.value w,
+        (table_is c.self.inside _ c.self.view_is, same_like c.self.inside _ c.self.view_is c.requires.sound),
+      ),
       record {
         writes_back = tt;
         on_way = ways;
         far = way_far _ _ _ ways;
         none = none_never _ c.as_mut-else-side.result _ _ c.as_mut-else-side.ensures.value on;
-        cost = step_cost c.self.inside _ c.self.view_is c.requires.sound c.as_mut-else-side.result c.args.key.now c.self.inside.zero _ _ c.as_mut-else-side.ensures.value on step c.visit-else-side.ensures.cost;
+        cost = step_cost c.self.inside _ c.self.view_is c.requires.sound c.as_mut-else-side.result c.args.key.now c.self.inside.zero _ _
+            c.as_mut-else-side.ensures.value on step c.visit-else-side.ensures.cost;
         cost_of_none = none_never _ c.as_mut-else-side.result _ _ c.as_mut-else-side.ensures.value on;
       },
     )

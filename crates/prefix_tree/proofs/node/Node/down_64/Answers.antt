@@ -1,5 +1,6 @@
 use Rattle.std.proofs.Common.{refl}
-use Rattle.prefix_tree.proofs.BorrowLaws.{if_at, if_both, if_some, if_none, like_self, graft_again, graft_same, way_again, far_there, still_longer, far_again, none_again, cost_again, cost_ended}
+use Rattle.base.proofs.Options.{if_some, if_none}
+use Rattle.prefix_tree.proofs.BorrowLaws.{if_at, if_both, like_self, graft_again, graft_same, way_again, far_there, still_longer, far_again, none_again, cost_again, cost_ended}
 use Rattle.prefix_tree.proofs.node.Node.down_64.Goals as goal
 
 pub returns-then-is_at : goal.returns-then-is_at

@@ -19,7 +19,8 @@ pub returns-in_default-clause-cost : goal.returns-in_default-clause-cost
 returns-in_default-clause-cost g c =
     let at = at_is c.here.inside _ c.here.view_is in
     let side : IsTrue (begins (c.loop-here.here.now.at ++ c.side.result ∷ []) c.args.key.now) = subst (λ (p : Path). IsTrue (begins (p ++ c.side.result ∷ []) c.args.key.now)) at c.side.ensures in
-    let none : visits_beyond c.loop-here.here.now.table c.loop-here.here.now.at c.args.key.now ≡ 0 = none_visits c.loop-here.here.now _ _ _ side c.below.ensures.under c.below.ensures.table c.in_default.is in
+    let none : visits_beyond c.loop-here.here.now.table c.loop-here.here.now.at c.args.key.now ≡ 0 =
+    none_visits c.loop-here.here.now _ _ _ side c.below.ensures.under c.below.ensures.table c.in_default.is in
     omega (arith, none, c.loop-here.invariant.3)
 
 pub returns-then-not-begins-clause-value : goal.returns-then-not-begins-clause-value
@@ -36,7 +37,8 @@ returns-then-not-begins-clause-cost g c =
     let side : IsTrue (begins (c.loop-here.here.now.at ++ c.side.result ∷ []) c.args.key.now) = subst (λ (p : Path). IsTrue (begins (p ++ c.side.result ∷ []) c.args.key.now)) at c.side.ensures in
     let low = at_is c.behind-node.inside _ c.behind-node.view_is in
     let off : begins c.deref.result.now.at c.args.key.now ≡ false = ap (λ p. begins p c.args.key.now) (sym low) ∙ sym c.begins.ensures ∙ c.if-not-begins.true in
-    let one : visits_beyond c.loop-here.here.now.table c.loop-here.here.now.at c.args.key.now ≡ 1 = off_visits c.loop-here.here.now _ _ _ side c.below.ensures.under c.below.ensures.table _ _ c.in-Some.is c.deref.ensures off in
+    let one : visits_beyond c.loop-here.here.now.table c.loop-here.here.now.at c.args.key.now ≡ 1 =
+    off_visits c.loop-here.here.now _ _ _ side c.below.ensures.under c.below.ensures.table _ _ c.in-Some.is c.deref.ensures off in
     omega (arith, one, c.loop-here.invariant.3, c.tick-in-loop-here.ensures)
 
 pub loop-here-smaller : goal.loop-here-smaller
@@ -44,7 +46,8 @@ loop-here-smaller g c =
     let at = at_is c.here.inside _ c.here.view_is in
     let same : length c.here.inside.at ≡ length c.loop-here.here.now.at = ap length at in
     let side : IsTrue (begins (c.loop-here.here.now.at ++ c.side.result ∷ []) c.args.key.now) = subst (λ (p : Path). IsTrue (begins (p ++ c.side.result ∷ []) c.args.key.now)) at c.side.ensures in
-    let longer : length c.loop-here.here.now.at < length c.deref-here.result.now.at = longer_there c.loop-here.here.now _ _ _ side c.below.ensures.under c.below.ensures.table _ _ c.in-Some.is c.deref-here.ensures in
+    let longer : length c.loop-here.here.now.at < length c.deref-here.result.now.at =
+    longer_there c.loop-here.here.now _ _ _ side c.below.ensures.under c.below.ensures.table _ _ c.in-Some.is c.deref-here.ensures in
     omega (arith, longer, same, c.loop-here-test.true, c.len.ensures.value, c.len-in-loop-here.ensures.value)
 
 pub loop-here-preserved : goal.loop-here-preserved
@@ -52,8 +55,12 @@ loop-here-preserved g c =
     let at = at_is c.here.inside _ c.here.view_is in
     let side : IsTrue (begins (c.loop-here.here.now.at ++ c.side.result ∷ []) c.args.key.now) = subst (λ (p : Path). IsTrue (begins (p ++ c.side.result ∷ []) c.args.key.now)) at c.side.ensures in
     let low = at_is c.behind-node.inside _ c.behind-node.view_is in
-    let on : IsTrue (begins c.deref-here.result.now.at c.args.key.now) = same_at c.deref.result.now c.deref-here.result.now _ c.deref.ensures c.deref-here.ensures c.args.key.now ∙ ap (λ p. begins p c.args.key.now) (sym low) ∙ sym c.begins.ensures ∙ c.if-not-begins.false in
-    let more : visits_beyond c.loop-here.here.now.table c.loop-here.here.now.at c.args.key.now ≡ 1 + visits_beyond c.deref-here.result.now.table c.deref-here.result.now.at c.args.key.now = on_visits c.loop-here.here.now _ _ _ side c.below.ensures.under c.below.ensures.table _ _ c.in-Some.is c.deref-here.ensures on in (
+    let on : IsTrue (begins c.deref-here.result.now.at c.args.key.now) =
+    same_at c.deref.result.now c.deref-here.result.now _ c.deref.ensures c.deref-here.ensures c.args.key.now ∙
+    ap (λ p. begins p c.args.key.now) (sym low) ∙ sym c.begins.ensures ∙ c.if-not-begins.false in
+    let more : visits_beyond c.loop-here.here.now.table c.loop-here.here.now.at c.args.key.now ≡ 1 + visits_beyond c.deref-here.result.now.table
+    c.deref-here.result.now.at c.args.key.now = on_visits c.loop-here.here.now _ _ _ side c.below.ensures.under c.below.ensures.table _ _
+    c.in-Some.is c.deref-here.ensures on in (
       on,
       sound_there c.loop-here.here.now _ _ _ side c.below.ensures.under c.below.ensures.table _ _ c.in-Some.is c.deref-here.ensures,
       on_there c.loop-here.here.now _ _ _ side c.below.ensures.under c.below.ensures.table _ _ c.in-Some.is c.deref-here.ensures ∙ c.loop-here.invariant.2,
@@ -64,12 +71,15 @@ pub returns-clause-value : goal.returns-clause-value
 returns-clause-value g c =
     let at = at_is c.here.inside _ c.here.view_is in
     let same : length c.here.inside.at ≡ length c.loop-here.here.now.at = ap length at in
-    let whole : c.loop-here.here.now.at ≡ c.args.key.now = begins_whole _ _ c.loop-here.invariant.0 (omega (arith, same, c.loop-here-test.false, c.len.ensures.value, c.len-in-loop-here.ensures.value)) in
+    let whole : c.loop-here.here.now.at ≡ c.args.key.now =
+    begins_whole _ _ c.loop-here.invariant.0 (omega (arith, same, c.loop-here-test.false, c.len.ensures.value, c.len-in-loop-here.ensures.value))
+    in
     c.own.ensures ∙ ap (map.get c.loop-here.here.now.table) whole ∙ c.loop-here.invariant.2
 
 pub returns-clause-cost : goal.returns-clause-cost
 returns-clause-cost g c =
     let at = at_is c.here.inside _ c.here.view_is in
     let same : length c.here.inside.at ≡ length c.loop-here.here.now.at = ap length at in
-    let done : visits_beyond c.loop-here.here.now.table c.loop-here.here.now.at c.args.key.now ≡ 0 = visits_done c.loop-here.here.now _ (omega (arith, same, c.loop-here-test.false, c.len.ensures.value, c.len-in-loop-here.ensures.value)) in
+    let done : visits_beyond c.loop-here.here.now.table c.loop-here.here.now.at c.args.key.now ≡ 0 =
+    visits_done c.loop-here.here.now _ (omega (arith, same, c.loop-here-test.false, c.len.ensures.value, c.len-in-loop-here.ensures.value)) in
     omega (arith, done, c.loop-here.invariant.3)

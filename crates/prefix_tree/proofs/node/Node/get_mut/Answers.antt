@@ -26,7 +26,8 @@ returns-then-len g c =
 
 pub down_64-requires-clause-longer : goal.down_64-requires-clause-longer
 down_64-requires-clause-longer g c =
-    let longer = longer_key c.self.inside _ c.self.view_is c.args.key.now c.requires.within (λ same. grind (arith, nat_tests, c.if-len.false, c.len.ensures.value ∙ same ∙ sym c.len-2.ensures.value)) in
+    let longer = longer_key c.self.inside _ c.self.view_is c.args.key.now c.requires.within
+    (λ same. grind (arith, nat_tests, c.if-len.false, c.len.ensures.value ∙ same ∙ sym c.len-2.ensures.value)) in
     let same : length c.self.inside.at ≡ length c.args.self.now.at = ap length (at_is c.self.inside _ c.self.view_is) in
     omega (arith, longer, same)
 
@@ -44,7 +45,9 @@ returns g c =
       (
         refl,
         λ w. (
-          on_some c.own_mut-2.result (λ e. graft_insert _ _ _ _ (next.lender w) _ on low (ends (next.lender w)) key w at (next.holds w).1 (e ∙ ap (λ p. map.insert c.inside.result.now.table p w) at)) (next.holds w).0,
+          on_some c.own_mut-2.result
+              (λ e. graft_insert _ _ _ _ (next.lender w) _ on low (ends (next.lender w)) key w at (next.holds w).1
+              (e ∙ ap (λ p. map.insert c.inside.result.now.table p w) at)) (next.holds w).0,
           graft_like _ _ _ _ (next.lender w) _ on low (ends (next.lender w)) (next.holds w).1,
         ),
         graft_same _ _ _ _ next.lender-at-none _ on low (ends next.lender-at-none) next.holds-at-none,

@@ -70,7 +70,8 @@ returns-in_err-take_piece-in-Some-clause-unread g c =
     let buffer = c.next_piece.new.buffer in
     let bound : n ≤ length buffer = subst (λ (p : Option ℕ). FitsPiece p (length buffer)) c.in-Some.is c.in-Ok.ensures.bound in
     let taken : length (take n buffer) ≤ n = grind (arith, common_steps) in
-    rw (p.1, p.2) (piece_unread g.R.TextSource.gave g.R.TextSource.ended g.R.TextSource.failed (outcome c.args.self.now) (outcome c.loop.self) c.loop.counter c.args.reader.now c.loop.reader c.next_piece.new.self
+    rw (p.1, p.2) (piece_unread g.R.TextSource.gave g.R.TextSource.ended g.R.TextSource.failed (outcome c.args.self.now) (outcome c.loop.self)
+    c.loop.counter c.args.reader.now c.loop.reader c.next_piece.new.self
     so.0 (take n buffer) _ so.1
     (subst (λ (p : Option ℕ). HasCome g.R.TextSource.gave g.R.TextSource.ended c.loop.reader p buffer c.next_piece.new.self) c.in-Some.is c.in-Ok.ensures.came)
     (omega (arith, bound, taken, c.next_piece.auto.buffer)) (kept_good c.loop.self.number c.loop.self.loader c.loop.self.line.items c.loop.invariant.1) so.2

@@ -10,7 +10,9 @@ pub returns-in_err-take_line-clause-fault : goal.returns-in_err-take_line-clause
 returns-in_err-take_line-clause-fault g c =
     let p = err_from_is_err_and c.from_residual.result c.from_residual.ensures.1 in
     let piece = c.args.piece.now in let at = c.loop-end.at in let end = c.in-Some.end in let there = c.in-Some.ensures in
-    rw (p.1, p.2) (λ left. fault_from _ _ _ (c.loop-end.invariant.3 left ∙ ap (outcome c.loop-end.self) (left_at piece left at end there.0 there.1 there.3)) (c.in_err-take_line.ensures.fault (drop (end + 1) piece ++ left)))
+    rw (p.1, p.2) (λ left.
+    fault_from _ _ _ (c.loop-end.invariant.3 left ∙ ap (outcome c.loop-end.self) (left_at piece left at end there.0 there.1 there.3))
+    (c.in_err-take_line.ensures.fault (drop (end + 1) piece ++ left)))
 
 pub loop-end-preserved : goal.loop-end-preserved
 loop-end-preserved g c =
@@ -22,7 +24,10 @@ loop-end-preserved g c =
     )
 
 pub returns-clause-ok : goal.returns-clause-ok
-returns-clause-ok g c = on_ok_weaker c.keep.result (λ kept left. c.loop-end.invariant.3 left ∙ ap (λ (l : List ℕ). outcome c.loop-end.self (l ++ left)) (sym (take_rest c.args.piece.now c.loop-end.at)) ∙ kept left) c.keep.ensures.ok
+returns-clause-ok g c =
+    on_ok_weaker c.keep.result
+    (λ kept left. c.loop-end.invariant.3 left ∙
+    ap (λ (l : List ℕ). outcome c.loop-end.self (l ++ left)) (sym (take_rest c.args.piece.now c.loop-end.at)) ∙ kept left) c.keep.ensures.ok
 
 pub returns-clause-fault : goal.returns-clause-fault
 returns-clause-fault g c = IfErr-weaker c.keep.result _ _ (λ fault said left.

@@ -13,4 +13,5 @@ pub itsi_of-requires : goal.itsi_of-requires
 itsi_of-requires g c = small_there _ _ c.first_past.result _ _ c.self.invariant (sym (c.range.ensures.between tt) ∙ c.in_ok-number.ensures.steps)
 
 pub returns : goal.returns
-returns g c = next_there _ _ _ _ _ _ _ _ c.self.view_is c.self.invariant c.first_past.ensures.value c.first_past.ensures.below (sym (c.range.ensures.between tt) ∙ c.in_ok-number.ensures.steps) c.itsi_of.ensures
+returns g c = next_there _ _ _ _ _ _ _ _ c.self.view_is c.self.invariant c.first_past.ensures.value c.first_past.ensures.below
+    (sym (c.range.ensures.between tt) ∙ c.in_ok-number.ensures.steps) c.itsi_of.ensures

@@ -12,5 +12,7 @@ returns-clause-before g c = ap Some c.replace.ensures.value ∙ c.in_ok-there.en
 
 pub returns-clause-there : goal.returns-clause-there
 returns-clause-there g c =
-    replaced_in c.self.inside.by_number (c.get_mut.follows.lender c.replace.new.dest) _ _ _ _ _ c.self.view_is c.self.invariant c.number.ensures.value c.number.ensures.below c.in_ok-there.ensures.value
-    (subst (λ radio. WritesThrough nat_cmp (nat_cmp c.number.result) c.self.inside.by_number radio (c.get_mut.follows.lender c.replace.new.dest)) c.replace.ensures.after (c.get_mut.follows.holds c.replace.new.dest))
+    replaced_in c.self.inside.by_number (c.get_mut.follows.lender c.replace.new.dest) _ _ _ _ _ c.self.view_is c.self.invariant c.number.ensures.value
+    c.number.ensures.below c.in_ok-there.ensures.value
+    (subst (λ radio. WritesThrough nat_cmp (nat_cmp c.number.result) c.self.inside.by_number radio (c.get_mut.follows.lender c.replace.new.dest))
+    c.replace.ensures.after (c.get_mut.follows.holds c.replace.new.dest))

@@ -4,4 +4,9 @@ use Rattle.registration.proofs.Whole.{replaced_whole}
 use Rattle.registration.proofs.registry.Registry.detach.Goals as goal
 
 pub invariant_of-self : goal.invariant_of-self
-invariant_of-self g c = (c.self.invariant.0, c.self.invariant.1 ∙ sym (len_replaced _ _ _ _ c.replace.result c.replace.ensures.before c.replace.ensures.there c.replace.ensures.absent), replaced_whole _ _ _ _ c.replace.result c.self.invariant.2 c.replace.ensures.there c.replace.ensures.absent)
+invariant_of-self g c = (
+  c.self.invariant.0,
+  c.self.invariant.1 ∙
+      sym (len_replaced _ _ _ _ c.replace.result c.replace.ensures.before c.replace.ensures.there c.replace.ensures.absent),
+  replaced_whole _ _ _ _ c.replace.result c.self.invariant.2 c.replace.ensures.there c.replace.ensures.absent,
+)

@@ -5,10 +5,17 @@ use Rattle.registration.proofs.Whole.{fewer_whole}
 use Rattle.registration.proofs.registry.Registry.forget.Goals as goal
 
 pub overflow_sub-self : goal.overflow_sub-self
-overflow_sub-self g c = let gone : c.self.inside.radio_count ≡ map.len c.take.new.self + 1 = c.self.invariant.1 ∙ len_gone _ _ _ _ c.in-Some.ensures.before c.in-Some.ensures.removed in omega (arith, gone)
+overflow_sub-self g c = let gone : c.self.inside.radio_count ≡ map.len c.take.new.self + 1 = c.self.invariant.1 ∙
+    len_gone _ _ _ _ c.in-Some.ensures.before c.in-Some.ensures.removed in omega (arith, gone)
 
 pub invariant_of-self : goal.invariant_of-self
-invariant_of-self g c = let gone : c.self.inside.radio_count ≡ map.len c.take.new.self + 1 = c.self.invariant.1 ∙ len_gone _ _ _ _ c.in-Some.ensures.before c.in-Some.ensures.removed in (c.self.invariant.0, omega (arith, gone), fewer_whole _ _ _ c.self.invariant.2 c.in-Some.ensures.removed)
+invariant_of-self g c = let gone : c.self.inside.radio_count ≡ map.len c.take.new.self + 1 = c.self.invariant.1 ∙
+    len_gone _ _ _ _ c.in-Some.ensures.before c.in-Some.ensures.removed in
+    (c.self.invariant.0, omega (arith, gone), fewer_whole _ _ _ c.self.invariant.2 c.in-Some.ensures.removed)
 
 pub invariant_of-self-in-None : goal.invariant_of-self-in-None
-invariant_of-self-in-None g c = (c.self.invariant.0, c.self.invariant.1 ∙ sym (len_same _ _ _ c.in-None.ensures.before c.in-None.ensures.removed), fewer_whole _ _ _ c.self.invariant.2 c.in-None.ensures.removed)
+invariant_of-self-in-None g c = (
+  c.self.invariant.0,
+  c.self.invariant.1 ∙ sym (len_same _ _ _ c.in-None.ensures.before c.in-None.ensures.removed),
+  fewer_whole _ _ _ c.self.invariant.2 c.in-None.ensures.removed,
+)

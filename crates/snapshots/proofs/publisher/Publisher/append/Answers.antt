@@ -1,4 +1,4 @@
-use Rattle.std.proofs.Common.{◌≡◌, true, ◌∷◌, ◌++◌, [], length, drop, sym, ◌∙◌, ap, subst, arith, length-append}
+use Rattle.std.proofs.Common.{◌≡◌, ◌∷◌, ◌++◌, [], length, drop, sym, ◌∙◌, ap, subst, arith, length-append}
 use mathlib.Core.List.{IsPrefix}
 use Rattle.snapshots.proofs.Prefixes.{prefix_longer}
 use Rattle.snapshots.proofs.Folding.{fold_more}
@@ -7,20 +7,22 @@ use Rattle.std.specs.Prelude.{IsTrue}
 use Rattle.centre_core.specs.History.{accepts, after}
 use Rattle.centre_core.specs.Histories.{IsHistory}
 use Rattle.snapshots.proofs.CommandLists.{next-room, history-snoc, after-snoc}
-use Rattle.snapshots.specs.Changes.{Lists}
+use Rattle.snapshots.specs.Changes.{PublisherView}
 use Rattle.snapshots.proofs.publisher.Publisher.append.Goals as goal
 
 pub added_to_log-requires-clause-room : goal.added_to_log-requires-clause-room
 added_to_log-requires-clause-room g c =
     let i = c.self.invariant in
-    let next : IsTrue (accepts (after g.J.Centre.base c.self.inside.appended.log) (arc_value c.args.command)) = subst (λ (s : Lists). IsTrue (accepts (after g.J.Centre.base s.appended) (arc_value c.args.command))) (sym c.self.view_is) c.requires.next in
+    let next : IsTrue (accepts (after g.J.Centre.base c.self.inside.appended.log) (arc_value c.args.command)) =
+    subst (λ (s : PublisherView). IsTrue (accepts (after g.J.Centre.base s.appended) (arc_value c.args.command))) (sym c.self.view_is) c.requires.next in
     let r = next-room g.J.Centre.base c.self.inside.appended.log (arc_value c.args.command) c.self.inside.count i.3 i.4 next in
     omega arith
 
 pub overflow_add-self : goal.overflow_add-self
 overflow_add-self g c =
     let i = c.self.invariant in
-    let next : IsTrue (accepts (after g.J.Centre.base c.self.inside.appended.log) (arc_value c.args.command)) = subst (λ (s : Lists). IsTrue (accepts (after g.J.Centre.base s.appended) (arc_value c.args.command))) (sym c.self.view_is) c.requires.next in
+    let next : IsTrue (accepts (after g.J.Centre.base c.self.inside.appended.log) (arc_value c.args.command)) =
+    subst (λ (s : PublisherView). IsTrue (accepts (after g.J.Centre.base s.appended) (arc_value c.args.command))) (sym c.self.view_is) c.requires.next in
     let r = next-room g.J.Centre.base c.self.inside.appended.log (arc_value c.args.command) c.self.inside.count i.3 i.4 next in
     omega arith
 
@@ -30,7 +32,7 @@ invariant_of-self-2 g c =
     let base = g.J.Centre.base in
     let cmd = arc_value c.args.command in
     let old = c.self.inside.appended in
-    let next : IsTrue (accepts (after base old.log) cmd) = subst (λ (s : Lists). IsTrue (accepts (after base s.appended) cmd)) (sym c.self.view_is) c.requires.next in
+    let next : IsTrue (accepts (after base old.log) cmd) = subst (λ (s : PublisherView). IsTrue (accepts (after base s.appended) cmd)) (sym c.self.view_is) c.requires.next in
     let added : c.added_to_log.new.list.log ≡ old.log ++ cmd ∷ [] = c.added_to_log.ensures.added c.if-not-added_to_log.false ∙ ap (λ t. t.log ++ cmd ∷ []) c.again-list.ensures in
     let log : c.again.result.log ≡ old.log ++ cmd ∷ [] = ap (λ t. t.log) c.again.ensures ∙ added in
     let book = ap (λ t. t.book) c.again.ensures ∙ c.added_to_log.ensures.book ∙ ap (λ t. t.book) c.again-list.ensures ∙ i.1 in
@@ -56,6 +58,6 @@ returns-clause-legal g c =
     let base = g.J.Centre.base in
     let cmd = arc_value c.args.command in
     let old = c.self.inside.appended in
-    let next : IsTrue (accepts (after base old.log) cmd) = subst (λ (s : Lists). IsTrue (accepts (after base s.appended) cmd)) (sym c.self.view_is) c.requires.next in
+    let next : IsTrue (accepts (after base old.log) cmd) = subst (λ (s : PublisherView). IsTrue (accepts (after base s.appended) cmd)) (sym c.self.view_is) c.requires.next in
     let added : c.added_to_log.new.list.log ≡ old.log ++ cmd ∷ [] = c.added_to_log.ensures.added c.if-not-added_to_log.false ∙ ap (λ t. t.log ++ cmd ∷ []) c.again-list.ensures in
     subst (IsHistory base) (sym (ap (λ t. t.log) c.again.ensures ∙ added)) (history-snoc base old.log cmd i.4 next)

@@ -20,5 +20,6 @@ invariant_of-result g c =
     let l = c.again.ensures ∙ ap (λ s. s.list) c.published-shown.ensures in
     let b = i.2 in
     let e = n.1 in
-    let m : c.count.result - c.self.inside.base ≡ length c.self.inside.writer.desk.shown.value.list.log = ap (λ k. k - c.self.inside.base) r ∙ ap (λ (k : ℕ). c.self.inside.writer.desk.shown.value.register.count - k) b ∙ e in
+    let m : c.count.result - c.self.inside.base ≡ length c.self.inside.writer.desk.shown.value.list.log = ap (λ k. k - c.self.inside.base) r ∙
+    ap (λ (k : ℕ). c.self.inside.writer.desk.shown.value.register.count - k) b ∙ e in
     (m ∙ ap (λ t. length t.log) (sym l), ap (λ t. t.book) l ∙ i.5.2, subst (λ t. IsHistory g.J.Centre.base t.log) (sym l) i.5.1)

@@ -1,0 +1,5 @@
+pub mod Bools
+pub mod Lists
+pub mod Numbers
+pub mod Options
+pub mod Results

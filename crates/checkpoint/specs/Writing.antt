@@ -1,0 +1,29 @@
+-- What a call that writes rows of an image does to the disk.
+use Rattle.std.specs.Prelude.{◌≡◌, ℕ, ◌≤◌, IsErr, IsErrOf, List, OnOk, Result}
+use Rattle.identity.specs.Numbers.{Byte}
+use Rattle.sector_disk.specs.Numbers.{Sector, Sectors}
+use Rattle.sector_disk.specs.Disk.{View}
+use Rattle.sector_disk.specs.Effects.{KeepsDisk}
+use Rattle.sector_disk.specs.Filling.{HasFilled}
+use Rattle.sector_disk.specs.Run.{HasCalled, HasMade, writes}
+use Rattle.sector_disk.specs.declared.disk.DiskError.{DiskError}
+use Rattle.sector_disk.specs.declared.disk.DiskError.TheVariants.{OutOfRange}
+use Rattle.centre_core.specs.State.{State}
+use Rattle.checkpoint.specs.Layout.{disk_size}
+use Rattle.checkpoint.specs.declared.layout.Layout.{Layout}
+
+-- The disk has room for this layout, and the register has the layout's limits.
+pub record HasRoomFor (layout : Layout) (register : State) (disk : View) : Type 0 where
+  pub room : disk_size layout ≤ disk.sectors
+  pub limits : register.registered.limits ≡ layout.limits
+
+-- So many rows are written from a sector on, the k-th with the bytes of k.
+pub record WritesRows (old new : View) (at : Sector) (n : Sectors) (bytes : ℕ → List Byte) (result : Result Unit DiskError) : Type 0 where
+  -- A stop at any moment of the call leaves all but these sectors as they were. At `Ok` these read as the rows.
+  pub effect : old.honest → HasFilled old new at n bytes result
+  -- Each row is written once, in order. A call that fails is the last.
+  pub calls : OnOk result (HasCalled old new (writes at n bytes))
+  pub some_calls : HasMade old new (writes at n bytes)
+  -- It does not give up by itself.
+  pub keeps : KeepsDisk old new (IsErr result)
+  pub in_range : IsErrOf result OutOfRange → ⊥

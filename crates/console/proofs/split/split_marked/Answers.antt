@@ -1,0 +1,10 @@
+use Rattle.std.proofs.Common.{map, take, arith}
+use Rattle.std.proofs.lemmas.Grind.{common_steps}
+use Rattle.console.specs.Inside.Left.{bytes_left}
+use Rattle.console.proofs.Splits.{more_words}
+use Rattle.console.proofs.split.split_marked.Goals as goal
+
+pub returns : goal.returns
+returns c =
+    let i = c.loop-at.invariant in
+    more_words (bytes_left c.args.line) (bytes_left c.loop-at.rest) (map (λ w. w.now) (take c.loop-at.at c.loop-at.places)) i.1 (let e = i.0 in grind (arith, common_steps, e, c.loop-at-test.false))

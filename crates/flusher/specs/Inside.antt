@@ -1,0 +1,5 @@
+pub mod Hearing
+pub mod Committing
+pub mod Lists
+pub mod Publishing
+pub mod Serving

@@ -1,7 +1,0 @@
-use denote.Param.Send.{sendable}
-use Rattle.std.proofs.sync.atomic.AtomicU64.TheSendSync as number
-use Rattle.live_centre.proofs.Crossing.{sessions_send}
-use Rattle.live_centre.proofs.beside.serve_all.Goals as goal
-
-pub join_mut-served-requires-send-F : goal.join_mut-served-requires-send-F
-join_mut-served-requires-send-F g c κs within = search (sendable, sessions_send, number.the_sync) depth 20

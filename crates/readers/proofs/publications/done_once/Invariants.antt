@@ -1,4 +1,0 @@
-use Rattle.readers.proofs.publications.done_once.Given as goal
-
-abbrev pub ghosts-done : goal.ghosts-done
-ghosts-done g a = record { base = a.register; book = a.log.seen.book }

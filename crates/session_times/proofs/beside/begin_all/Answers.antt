@@ -1,7 +1,0 @@
-use denote.Param.Send.{sendable}
-use Rattle.flusher.proofs.Crossing.{session_send}
-use Rattle.session_times.proofs.beside.Load.TheSendSync as load
-use Rattle.session_times.proofs.beside.begin_all.Goals as goal
-
-pub spawn-thread-requires-send-F : goal.spawn-thread-requires-send-F
-spawn-thread-requires-send-F g c κs within = search (sendable, session_send, load.the_sync) depth 20

@@ -1,6 +1,0 @@
-use Rattle.flusher.specs.View.{view_of}
-use Rattle.flusher.specs.Served.{IsSettled}
-use Rattle.session_times.proofs.beside.flush.Given as goal
-
-abbrev pub invariant-loop : goal.invariant-loop
-invariant-loop g l = IsSettled g.J.Centre.base (view_of l.flusher)

@@ -1,4 +1,0 @@
-use Rattle.sessions.proofs.refused.served_once.Given as goal
-
-abbrev pub ghosts-served : goal.ghosts-served
-ghosts-served g a = record { base = a.store.register; book = a.log.seen.book }

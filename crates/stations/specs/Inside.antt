@@ -1,0 +1,4 @@
+pub mod Kept
+pub mod Listing
+pub mod Answered
+pub mod Ledgers
