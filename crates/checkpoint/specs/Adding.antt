@@ -10,7 +10,8 @@ use Rattle.checkpoint.specs.OnSide.{Base, EachIsOnSide, Held, IsInHalf, IsOnSide
 use Rattle.checkpoint.specs.declared.layout.Layout.{Layout}
 use Rattle.checkpoint.specs.declared.side.Side.{Side}
 
--- where every image is on a side, a record may be added to the side's half
+-- Where every image is on a side, and the closed gate after the side's records is in its half, the half is settled after these
+-- records: a record may be added to it.
 abbrev pub MayAddRecords : Type 0 → View → Type 0
 MayAddRecords A disk =
     (layout : Layout) (side : Side) (form : Form) (base : Base) (held : Held A)

@@ -17,11 +17,11 @@ use Rattle.checkpoint.specs.OnSide.{Base}
 
 -- ---- a side is closed
 
--- the root is read, and closed where it was read as open
+-- the side's root is read, and written closed where it was read as open (`was_open`)
 abbrev pub root_calls_by : Side → Bool → List Call
 root_calls_by side was_open = Read (root_at side) ∷ (if was_open then Write (root_at side) closed_gate ∷ [] else [])
 
--- then the first gate of the half is closed, and both are synced
+-- the side's root is read, and written closed where it was read as open; then the half's first gate is closed, and all synced
 abbrev pub close_calls_by : Layout → Side → Bool → List Call
 close_calls_by layout side was_open = root_calls_by side was_open ++ Write (half_at layout side) closed_gate ∷ Sync ∷ []
 
@@ -29,51 +29,52 @@ close_calls_by layout side was_open = root_calls_by side was_open ++ Write (half
 abbrev pub is_root_open : Side → List (List Byte) → Bool
 is_root_open side reads = is_open (sector reads (root_at side))
 
--- the root is read, and closed where it is open
+-- the side's root is read, and written closed where it reads as open
 abbrev pub root_calls : Side → List (List Byte) → List Call
 root_calls side reads = root_calls_by side (is_root_open side reads)
 
--- then the first gate of the half is closed, and both are synced
+-- the side's root is read, and written closed where it reads as open; then the half's first gate is closed, and all synced
 abbrev pub close_calls : Layout → Side → List (List Byte) → List Call
 close_calls layout side reads = close_calls_by layout side (is_root_open side reads)
 
 -- ---- an image is written, and made to count
 
--- the row at a place of an image, as it is written
+-- the sector that row k of an image is written as, from row 0, the header
 abbrev pub row_sector : Base → ℕ → List Byte
 row_sector base k = sector (sectors_of base.0 base.1) k
 
--- each row is written once, in order
+-- the rows of an image are written from the sector `at` on, each once, in order
 abbrev pub row_calls : Sector → Base → List Call
 row_calls at base = writes at (length (rows_of base.0 base.1)) (row_sector base)
 
--- the side is closed, then the image is written and synced
+-- the side is closed as by `close_calls_by`, then the image is written to its slot, and synced
 abbrev pub image_calls_by : Layout → Side → Bool → Base → List Call
 image_calls_by layout side was_open base = close_calls_by layout side was_open ++ row_calls (slot_at layout side) base ++ Sync ∷ []
 
--- the side is closed by what its root reads as, then the image is written and synced
+-- the side is closed, its root written only where it reads as open; then the image is written to its slot, and synced
 abbrev pub image_calls : Layout → Side → List (List Byte) → Base → List Call
 image_calls layout side reads base = image_calls_by layout side (is_root_open side reads) base
 
--- the side's root is opened
+-- the side's root is written open, and synced
 abbrev pub switch_calls : Side → List Call
 switch_calls side = Write (root_at side) open_gate ∷ Sync ∷ []
 
 -- ---- which of these a call of this crate makes
 
--- At `Ok` the disk has had all of these calls, and after an error a prefix of them. A call that fails is the last.
+-- At `Ok` the disk has had exactly these calls, and after an error a prefix of them.
 pub record MakesCalls {T E : Type 0} (old new : View) (list : List Call) (result : Result T E) : Type 0 where
   pub calls : OnOk result (HasCalled old new list)
   pub some_calls : HasMade old new list
 
--- The side's root is read, and written only where it reads as open: the disk has these calls by whether it did. One that is
--- not honest has those of a root that did, or of one that did not.
+-- The calls that the disk has had, where they depend on whether a side's root was read as open (`calls_by`): at `Ok` exactly
+-- these calls, and after an error a prefix of them. On an honest disk the root was read as it is in `old`. On any other disk it
+-- may have been read as open or as closed.
 pub record MakesCallsByRoot {T E : Type 0} (old new : View) (side : Side) (calls_by : Bool → List Call) (result : Result T E) : Type 0 where
   pub calls : OnOk result (old.honest → HasCalled old new (calls_by (is_root_open side old.reads)))
   pub some_calls : old.honest → HasMade old new (calls_by (is_root_open side old.reads))
   pub calls_on_any_disk : OnOk result ((was_open : Bool) × HasCalled old new (calls_by was_open))
   pub some_calls_on_any_disk : (was_open : Bool) × HasMade old new (calls_by was_open)
 
--- the calls that write an image to a side, by what the side's root reads as
+-- The calls that the disk has had are those that close a side and write this image to it, as `MakesCallsByRoot` states.
 abbrev pub MakesImageCalls : {T E : Type 0} → View → View → Layout → Side → Base → Result T E → Type 0
 MakesImageCalls old new layout side base result = MakesCallsByRoot old new side (λ was_open. image_calls_by layout side was_open base) result

@@ -1,4 +1,5 @@
--- Where each part of a disk lies. Sector 0 holds the label; then come the two roots, the two slots for images, and the two halves of the journal.
+-- Where each part of a disk lies. Sector 0 holds the label. Then come the two roots, the two slots for images, and the two
+-- halves of the journal.
 use Rattle.std.specs.Prelude.{◌+◌, ◌*◌}
 use Rattle.sector_disk.specs.Numbers.{Sector, Sectors}
 use Rattle.checkpoint.specs.declared.layout.Layout.{Layout}

@@ -20,7 +20,7 @@ use Rattle.checkpoint.specs.declared.side.Side.{Side}
 use Rattle.checkpoint.specs.Layout.{disk_size, half_at, half_end, label_at, other_of, root_at, slot_at, slot_size}
 use Rattle.checkpoint.specs.Label.{IsLabel}
 
--- so many sectors from a place on
+-- so many sectors from the sector `at` on
 unfoldable pub sectors_from : List (List Byte) → Sector → Sectors → List (List Byte)
 sectors_from image at zero = []
 sectors_from image at (suc n) = sector image at ∷ sectors_from image (at + 1) n
@@ -50,15 +50,15 @@ epoch_of None = None
 abbrev pub slot_epoch : Layout → Side → List (List Byte) → Option Epoch
 slot_epoch layout side image = epoch_of (row_in (sector image (slot_at layout side)))
 
--- the side's slot states a smaller epoch
+-- the side's slot states an epoch, which is smaller than this one
 abbrev pub HasLesserEpoch : Layout → Side → Epoch → List (List Byte) → Type 0
 HasLesserEpoch layout side epoch image = (e : Epoch) × (slot_epoch layout side image ≡ Some e) × (e < epoch)
 
--- the side does not count against one of this epoch: its root is closed, or its slot states a smaller epoch
+-- the side does not count against another side of this epoch: its root is closed, or its slot states a smaller epoch
 abbrev pub IsBelow : Layout → Side → Epoch → List (List Byte) → Type 0
 IsBelow layout side epoch image = IsClosed (sector image (root_at side)) ⊎ HasLesserEpoch layout side epoch image
 
--- in every image that a stop may leave
+-- P holds of every image that a stop may leave of the disk now
 abbrev pub InEach : View → (List (List Byte) → Type 0) → Type 0
 InEach disk P = (image : List (List Byte)) → IsImageOf disk image → P image
 
@@ -99,12 +99,13 @@ module _ {A : Type 0} where
     count = counted base.1.count held.0;
   }
 
-  -- no record
+  -- a side's half without a record: its first gate is the closed one
   abbrev pub fresh : Layout → Side → Held A
   fresh layout side = ([], half_at layout side)
 
-  -- The image is on this side. The disk is labelled, the side's root is open, and the other side does not count against it.
-  -- Its slot begins with this image of a register, and its half holds these records, of the form that the slot states.
+  -- The image of the disk is on this side. It has enough sectors and its label. The side's root is open, and the other side
+  -- does not count against it. The side's slot begins with this image of a register. The side's half holds these records, of
+  -- the form that the slot states, and the closed gate after them.
   pub record IsOnSide (layout : Layout) (side : Side) (form : Form) (base : Base) (held : Held A) (image : List (List Byte)) : Type 0 where
     pub room : disk_size layout ≤ length image
     pub label : IsLabel layout (sector image label_at)
@@ -115,8 +116,8 @@ module _ {A : Type 0} where
     pub half : IsInHalf layout side form base held image
     pub gate : held.1 < half_end layout side
 
-  -- Only the side's root is not open yet: its slot begins with this image of a register, and its half holds these records, of
-  -- the form that the slot states.
+  -- The side is ready to be switched to: its root is closed, and its slot begins with this image of a register. Its half holds
+  -- these records, of the form that the slot states, and the closed gate after them.
   pub record IsReady (layout : Layout) (side : Side) (form : Form) (base : Base) (held : Held A) (image : List (List Byte)) : Type 0 where
     pub root : IsClosed (sector image (root_at side))
     pub slot : IsInSlot layout side base image
@@ -124,37 +125,42 @@ module _ {A : Type 0} where
     pub half : IsInHalf layout side form base held image
     pub gate : held.1 < half_end layout side
 
-  -- every image of the disk is on this side
+  -- every image of the disk is on this side, with this image of a register and these records
   abbrev pub EachIsOnSide : View → Layout → Side → Form → Base → Held A → Type 0
   EachIsOnSide disk layout side form base held = InEach disk (IsOnSide layout side form base held)
 
-  -- in every image of the disk only this side's root is not open yet
+  -- in every image of the disk this side is ready (`IsReady`): its root is closed, and it has this image of a register and
+  -- these records
   abbrev pub EachIsReady : View → Layout → Side → Form → Base → Held A → Type 0
   EachIsReady disk layout side form base held = InEach disk (IsReady layout side form base held)
 
-  -- the image is on the current side as before, or on the other one, with the register and records there
+  -- the image is on the current side with `base` and the records `held`, or on the other one with `next` and the records `more`
   abbrev pub IsEither : Layout → Side → Form → Form → Base → Base → Held A → Held A → List (List Byte) → Type 0
   IsEither layout current form also base next held more image =
       IsOnSide layout current form base held image ⊎ IsOnSide layout (other_of current) also next more image
 
--- In every image of the disk only this side's root is not open yet. Its slot holds this image, in layout 2, and its half no record.
+-- In every image of the disk this side is ready (`IsReady`): its root is closed, its slot begins with this image of a
+-- register, in layout 2, and its half has no record.
 abbrev pub HasFreshImage : Type 0 → Layout → Side → Base → View → Type 0
 HasFreshImage A layout side base disk = EachIsReady {A = A} disk layout side Numbered base (fresh layout side)
 
--- A stop at any moment from old to new leaves an honest disk on this side, with the same register and records.
+-- Suppose that old is honest, and that each of its images is on this side, with one image of a register and one list of
+-- records. Then a stop at any moment from old to new leaves an image on this side, with that register and these records.
 abbrev pub KeepsSide : Type 0 → Layout → Side → View → View → Type 0
 KeepsSide A layout side old new =
     (form : Form) (base : Base) (held : Held A) → old.honest → EachIsOnSide old layout side form base held
     → LeavesOnly old new (IsOnSide layout side form base held)
 
--- The other side of an honest disk has a newer image, and only its root is not open yet. A stop at any moment from old to new
--- leaves the disk on this side or on the other one.
+-- Suppose that old is honest, that each of its images is on this side, and that in each the other side is ready (`IsReady`)
+-- with a greater epoch. Then a stop at any moment from old to new leaves an image on this side, with the register and records
+-- of this side in old, or on the other side, with those of the other side in old.
 abbrev pub KeepsEitherSide : Type 0 → Layout → Side → View → View → Type 0
 KeepsEitherSide A layout side old new =
     (form also : Form) (base next : Base) (held more : Held A) → base.0 < next.0 → old.honest → EachIsOnSide old layout side form base held
     → EachIsReady old layout (other_of side) also next more → LeavesOnly old new (IsEither layout side form also base next held more)
 
--- From such a disk, new is on the other side, with the records there.
+-- Suppose that old is honest, that each of its images is on this side, and that in each the other side is ready (`IsReady`)
+-- with a greater epoch. Then each image of new is on the other side, with the register and records of that side in old.
 abbrev pub ChangesSide : Type 0 → Layout → Side → View → View → Type 0
 ChangesSide A layout side old new =
     (form also : Form) (base next : Base) (held more : Held A) → base.0 < next.0 → old.honest → EachIsOnSide old layout side form base held

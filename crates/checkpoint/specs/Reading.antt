@@ -14,33 +14,34 @@ use Rattle.checkpoint.specs.declared.side.Side.{Side}
 use Rattle.checkpoint.specs.Layout.{slot_at}
 use Rattle.checkpoint.specs.OnSide.{Base, IsInSlot, slot_in}
 
--- that sector of the disk is the first bad one of the side's slot
+-- the sector `at` of the disk is the first bad one of the side's slot
 abbrev pub IsBadSector : Layout → Side → Sector → List (List Byte) → Type 0
 IsBadSector layout side at image = (place : ℕ) × (slot_in layout side image ≡ Err place) × (at ≡ slot_at layout side + place)
 
--- so many sectors from a place on are read, each once, in order
+-- so many sectors from the sector `at` on are read, each once, in order
 unfoldable pub read_calls : Sector → Sectors → List Call
 read_calls at zero = []
 read_calls at (suc n) = read_calls at n ++ Read (at + n) ∷ []
 
--- each sector of an image is read once, and none after it
+-- the sectors of an image that begins at the sector `at` are read, each once, in order
 abbrev pub image_reads : Sector → Base → List Call
 image_reads at base = read_calls at (length (rows_of base.0 base.1))
 
--- So many sectors of the slot were read, in order, and none of them is the bad one.
+-- The first `read` sectors of the side's slot were read, each once, in order, and none of them is its first bad one.
 pub record IsGoodSoFar (layout : Layout) (side : Side) (old new : View) : Type 0 where
   pub read : Sectors
   pub calls : new.calls ≡ old.calls ++ read_calls (slot_at layout side) read
   pub good : (place : ℕ) → slot_in layout side old.reads ≡ Err place → read ≤ place
 
--- This image is the one in the side's slot, under the layout's limits. Each of its sectors was read once, in order.
+-- What the image that a read returned is. It has the layout's limits. On an honest disk it is the image with which the side's
+-- slot begins, and the disk was called only to read its sectors, each once, in order.
 pub record HasReadImage (layout : Layout) (side : Side) (old new : View) (image : Base) : Type 0 where
   pub exact : old.honest → IsInSlot layout side image old.reads
   pub limits : image.1.registered.limits ≡ layout.limits
   pub calls : old.honest → HasCalled old new (image_reads (slot_at layout side) image)
 
--- Why an image is not read. `Damaged` names the slot's first bad sector. Out of memory never masks damage: all sectors that were
--- read are good.
+-- What an error of a read of an image states. On an honest disk `Damaged` names the first bad sector of the side's slot, on any
+-- disk one of its sectors. On an honest disk `NoMemory` comes only where no bad sector was read, so it never masks damage.
 pub record RefusesImage {T : Type 0} (layout : Layout) (side : Side) (old new : View) (result : Result T ReadFault) : Type 0 where
   pub damaged : (at : ℕ) → IsErrOf result (Damaged at) → old.honest → IsBadSector layout side at old.reads
   pub on_disk : (at : ℕ) → IsErrOf result (Damaged at) → at < old.sectors

@@ -17,13 +17,13 @@ pub record HasRoomFor (layout : Layout) (register : State) (disk : View) : Type 
   pub room : disk_size layout ≤ disk.sectors
   pub limits : register.registered.limits ≡ layout.limits
 
--- So many rows are written from a sector on, the k-th with the bytes of k.
+-- n rows are written from the sector `at` on, one a sector, row k (from 0) with the bytes of k.
 pub record WritesRows (old new : View) (at : Sector) (n : Sectors) (bytes : ℕ → List Byte) (result : Result Unit DiskError) : Type 0 where
   -- A stop at any moment of the call leaves all but these sectors as they were. At `Ok` these read as the rows.
   pub effect : old.honest → HasFilled old new at n bytes result
-  -- Each row is written once, in order. A call that fails is the last.
+  -- At `Ok` each row was written once, in order, and after an error a prefix of the rows.
   pub calls : OnOk result (HasCalled old new (writes at n bytes))
   pub some_calls : HasMade old new (writes at n bytes)
-  -- It does not give up by itself.
+  -- The call fails only where the device has failed.
   pub keeps : KeepsDisk old new (IsErr result)
   pub in_range : IsErrOf result OutOfRange → ⊥

@@ -46,14 +46,14 @@ pub fn begin<A: Allocator, D: Disk>(
 ) -> Result<(), DiskError>
     requires room { disk_size layout.now ≤ (D.view disk.old).sectors }
 
-    // A stop at any moment of the call leaves the disk on the current side, with the same register and records.
+    // A stop at any moment of the call leaves the disk on the current side, with the register and records that it had there.
     ensures any_moment { KeepsSide A layout.now current (D.view disk.old) (D.view disk.new) }
     ensures shut { OnOk result ((D.view disk.old).honest → IsShut layout.now (other_of current) (D.view disk.new)) }
 
     // The root is read, and written only where it reads as open. Then the gate is closed. A call that fails is the last.
     ensures made { MakesCallsByRoot (D.view disk.old) (D.view disk.new) (other_of current) (close_calls_by layout.now (other_of current)) result }
 
-    // It does not give up by itself.
+    // It fails only where the device has failed.
     ensures cause { HasCause (D.view disk.old) (D.view disk.new) result }
     ensures in_range { IsErrOf result OutOfRange → ⊥ }
     ensures honest { (D.view disk.old).honest → (D.view disk.new).honest }

@@ -51,17 +51,18 @@ pub fn write_image<A: Allocator + Clone, D: Disk>(
 ) -> Result<(), CheckpointError>
     requires fits { HasRoomFor layout.now register.now (D.view disk.old) }
 
-    // A stop at any moment of the call leaves the disk on the current side, with the same register and records.
+    // A stop at any moment of the call leaves the disk on the current side, with the register and records that it had there.
     ensures any_moment { KeepsSide A layout.now current (D.view disk.old) (D.view disk.new) }
 
-    // At `Ok` each stop leaves the image in the other side's slot, with the next epoch. Only that side's root is not open yet.
+    // At `Ok` each stop leaves the other side ready: its slot has the image, with the next epoch, and its root is closed. Its
+    // half has no record.
     ensures ready { OnOk result ((D.view disk.old).honest → HasFreshImage A layout.now (other_of current) (epoch + 1, register.now) (D.view disk.new)) }
 
     // The other side's root is read, and written only where it reads as open. Its first gate is closed, and then each row is
     // written once. A call that fails is the last.
     ensures made { MakesImageCalls (D.view disk.old) (D.view disk.new) layout.now (other_of current) (epoch + 1, register.now) result }
 
-    // It does not give up by itself.
+    // It fails only where the device has failed, or where `epoch` is the last one.
     ensures keeps { KeepsDisk (D.view disk.old) (D.view disk.new) (IsErrOf result DiskFault) }
     ensures epochs { IsErrOf result EpochsUsedUp → last_epoch ≤ epoch }
     ensures used_up { last_epoch ≤ epoch → (result ≡ Err EpochsUsedUp) × (disk.new ≡ disk.old) }

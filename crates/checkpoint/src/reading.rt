@@ -87,7 +87,7 @@ pub fn read_image<A: Allocator + Clone, D: Disk>(
     // `Damaged` names the slot's first bad sector. Out of memory never masks damage: all sectors that were read are good.
     ensures refused { RefusesImage layout.now side (D.view disk.old) (D.view disk.new) result }
 
-    // It only reads: the sectors of the slot from the first on, each once. It does not give up by itself.
+    // It only reads: the sectors of the slot from the first on, each once. `DiskFault` comes only where the device has failed.
     ensures reads { OnlyReads (D.view disk.old) (D.view disk.new) (IsErrOf result DiskFault) }
     ensures some_calls { HasMade (D.view disk.old) (D.view disk.new) (read_calls (slot_at layout.now side) (slot_size layout.now)) }
 {

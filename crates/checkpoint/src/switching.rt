@@ -22,16 +22,17 @@ pub fn switch<A: Allocator, D: Disk>(
 ) -> Result<(), CheckpointError>
     requires room { disk_size layout.now ≤ (D.view disk.old).sectors }
 
-    // A stop at any moment of the call leaves the disk on one side or on the other.
+    // Where the other side is ready with a greater epoch, a stop at any moment of the call leaves the disk on one side or the
+    // other.
     ensures any_moment { KeepsEitherSide A layout.now current (D.view disk.old) (D.view disk.new) }
 
-    // At `Ok` each stop leaves it on the other side, with the records there.
+    // At `Ok` each stop then leaves it on the other side, with the register and records there.
     ensures switched { OnOk result (ChangesSide A layout.now current (D.view disk.old) (D.view disk.new)) }
 
     // The other side's root is opened, and synced. A call that fails is the last.
     ensures made { MakesCalls (D.view disk.old) (D.view disk.new) (switch_calls (other_of current)) result }
 
-    // It does not give up by itself.
+    // It fails only where the device has failed.
     ensures keeps { KeepsDisk (D.view disk.old) (D.view disk.new) (IsErrOf result DiskFault) }
     ensures epochs { IsErrOf result EpochsUsedUp → ⊥ }
 {

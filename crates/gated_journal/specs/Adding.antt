@@ -1,4 +1,4 @@
--- What an append leaves, of the disk and of the journal.
+-- What an append does to the disk and to the place of the journal.
 use Rattle.std.specs.Prelude.{◌≡◌, ℕ, List, OnOk, Result, false}
 use Rattle.std.specs.Borrow.{Bor}
 use Rattle.centre_core.specs.Asked.{Asked}
@@ -12,13 +12,14 @@ use Rattle.gated_journal.specs.declared.fault.JournalError.TheVariants.{JournalF
 use Rattle.gated_journal.specs.declared.place.Place.{Place}
 
 module _ {B : Type 0} (A : Type 0) where
-  -- A record of these commands is added to the half of a place.
+  -- What an append of one record, of these commands, does to the disk and to a place. `after` is the place after the call.
   pub record AddsOne (old new : View) (place after : Place) (commands : List (Bor (Asked B))) (result : Result Unit JournalError) : Type 0 where
-    -- A stop at any moment of the call leaves the records from before it, with the new one whole or without it. All other
-    -- sectors are as they were.
+    -- A stop at any moment of the call leaves in the half the records from before it, with the new one whole or without it.
+    -- Outside the half it leaves what a stop before the call could leave.
     pub any_moment : (before : ℕ) (entries : List (Entry A)) → old.honest → IsSettled old place before entries
         → LeavesOnly old new (Leaves old place before entries (new_entry A place commands))
-    -- At `Ok` each stop leaves it, nothing is pending, and all outside the half reads as it did. The next record goes after it.
+    -- At `Ok` each stop leaves the new record too, nothing is pending, and all outside the half reads as before the call. The
+    -- next record then goes after the new one.
     pub acknowledged : OnOk result ((before : ℕ) (entries : List (Entry A)) → old.honest → IsSettled old place before entries
         → HasOneMore new after before entries (new_entry A place commands))
     pub durable : old.honest → OnOk result ((k : ℕ) → new.pending k ≡ false)
@@ -28,15 +29,16 @@ module _ {B : Type 0} (A : Type 0) where
     pub calls : OnOk result (HasCalled old new (append_calls place.next (text_at A place commands)))
     pub some_calls : HasMade old new (append_calls place.next (text_at A place commands))
 
-  -- A record of these commands is added to the halves of two places.
+  -- What an append of one record, of these commands, to two halves does to the disk and to their places x and y. `x_after` and
+  -- `y_after` are the places after the call.
   pub record AddsToBoth (old new : View) (x x_after y y_after : Place) (commands : List (Bor (Asked B))) (result : Result Unit JournalError)
       : Type 0 where
-    -- A stop at any moment of the call leaves, in each of the two halves, the records from before it, with the new one whole
-    -- or without it. All other sectors are as they were.
+    -- A stop at any moment of the call leaves in each half the records from before it, with the new one whole or without it. It
+    -- may be in one half alone. Outside the two halves a stop leaves what a stop before the call could leave.
     pub any_moment : (before start : ℕ) (entries others : List (Entry A)) → old.honest → IsSettled old x before entries → IsSettled old y start others
         → LeavesOnly old new (LeavesBoth old x y before start entries others (new_entry A x commands) (new_entry A y commands))
-    -- At `Ok` each stop leaves it in both, nothing is pending, and all outside the two halves reads as it did. The next record
-    -- of each goes after it.
+    -- At `Ok` each stop leaves the new record in both halves, nothing is pending, and all outside them reads as before the
+    -- call. The next record of each half then goes after the new one.
     pub acknowledged : OnOk result ((before start : ℕ) (entries others : List (Entry A)) → old.honest
         → IsSettled old x before entries → IsSettled old y start others
         → HaveOneMore new x_after y_after before start entries others (new_entry A x commands) (new_entry A y commands))
@@ -48,7 +50,7 @@ module _ {B : Type 0} (A : Type 0) where
     pub calls : OnOk result (HasCalled old new (append_both_calls x.next (text_at A x commands) y.next (text_at A y commands)))
     pub some_calls : HasMade old new (append_both_calls x.next (text_at A x commands) y.next (text_at A y commands))
 
--- an error that an append answers: the record does not fit, or the device fails
+-- an error that an append may answer: the record does not fit (`JournalFull`), or the device fails (`DiskFault`)
 abbrev pub IsOfAppend : JournalError → Type 0
 IsOfAppend JournalFull = Unit {0}
 IsOfAppend DiskFault = Unit {0}

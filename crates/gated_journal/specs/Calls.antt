@@ -15,23 +15,25 @@ closed_gate = replicate 512 0
 abbrev pub open_gate : List Byte
 open_gate = 1 ∷ replicate 511 0
 
--- The first n sectors of a text are written from a place on, and synced.
+-- The first n sectors of a text are written from the sector `at` on, and synced.
 abbrev pub settled_calls : Sector → Sectors → List Byte → List Call
 settled_calls at n text = writes at n (data_sector text) ++ Sync ∷ []
 
--- Each data sector is written, the next gate closed, and both synced; then the record's gate opened, and synced. Nothing is read.
+-- The append of a record's text. Each data sector is written, the next gate is closed, and all that is synced. Then the
+-- record's gate is opened, and synced. Nothing is read.
 abbrev pub append_calls : Sector → List Byte → List Call
 append_calls gate text =
     writes (gate + 1) (data_size text) (data_sector text) ++ Write (gate + 1 + data_size text) closed_gate ∷ Sync ∷ Write gate open_gate ∷ Sync ∷ []
 
--- each data sector of a text is written, and the next gate closed
+-- each data sector of a text is written after the record's gate, and the next gate is closed
 abbrev pub text_calls : Sector → List Byte → List Call
 text_calls gate text = writes (gate + 1) (data_size text) (data_sector text) ++ Write (gate + 1 + data_size text) closed_gate ∷ []
 
--- Both texts are written, the gates after them closed, and all that synced. Then both gates are opened, and synced. Nothing is read.
+-- The append of two records' texts. Both texts are written, the gates after them are closed, and all that is synced. Then the
+-- gates of both records are opened, and synced. Nothing is read.
 abbrev pub append_both_calls : Sector → List Byte → Sector → List Byte → List Call
 append_both_calls gate text also other = text_calls gate text ++ (text_calls also other ++ Sync ∷ Write gate open_gate ∷ Write also open_gate ∷ Sync ∷ [])
 
--- The first n sectors of one text and the first m of another are written, and synced.
+-- The first n sectors of one text are written from `at` on, the first m of another from `to` on, and all are synced.
 abbrev pub settled_both_calls : Sector → Sectors → List Byte → Sector → Sectors → List Byte → List Call
 settled_both_calls at n text to m other = writes at n (data_sector text) ++ (writes to m (data_sector other) ++ Sync ∷ [])

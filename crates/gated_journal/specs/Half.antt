@@ -27,7 +27,7 @@ abbrev pub stated_size : Form → List Byte → Sectors
 stated_size Plain bytes = (big_from 2 4 bytes + 517) / 512
 stated_size Numbered bytes = (big_from 10 4 bytes + 525) / 512
 
--- the bytes of so many sectors from a place on
+-- the bytes of so many sectors from the sector `at` on
 unfoldable pub data_from : List (List Byte) → Sector → Sectors → List Byte
 data_from image at zero = []
 data_from image at (suc n) = data_from image at n ++ sector image (at + n)
@@ -44,7 +44,7 @@ Found A = Result (Option (List (Asked A) × Sector)) Sector
 abbrev pub Half : Type 0 → Type 0
 Half A = Result (List (Entry A) × Sector) Sector
 
--- A record of this size after the gate at this place takes no more data sectors than it may, and its next gate lies before the end.
+-- a record of so many data sectors fits after the gate `at`: they are at most `most_sectors`, and the next gate is before `end`
 abbrev pub fits_after : Sector → Sector → Sectors → Bool
 fits_after at end size = nat_le size most_sectors && nat_lt (at + 1 + size) end
 
@@ -53,11 +53,12 @@ fits_after at end size = nat_le size most_sectors && nat_lt (at + 1 + size) end
 abbrev pub after_gate : {X : Type 0} → Sector → Sector → Sectors → (Sectors → Result (Option X) Sector) → Result (Option X) Sector
 after_gate at end size make = if at + 1 == end then Err at else if fits_after at end size then make size else Err (at + 1)
 
--- What is at a gate: nothing where it is closed, else what follows it.
+-- What is at a gate: nothing where it is closed, else what `after_gate` states of the size in the next sector.
 abbrev pub at_gate : {X : Type 0} → Form → List (List Byte) → Sector → Sector → (Sectors → Result (Option X) Sector) → Result (Option X) Sector
 at_gate form image at end make = if is_open (sector image at) then after_gate at end (stated_size form (sector image (at + 1))) make else Ok None
 
--- What is at a gate before its bytes are judged: those of the record's data sectors, and the next gate.
+-- What is at a gate, before the bytes are judged to be a record: nothing where it is closed, else the bytes of the data sectors
+-- and the next gate; or the sector at fault.
 unfoldable pub bytes_at : Form → List (List Byte) → Sector → Sector → Result (Option (List Byte × Sector)) Sector
 bytes_at form image at end = at_gate form image at end (λ size. Ok (Some (data_from image (at + 1) size, at + 1 + size)))
 
@@ -73,13 +74,14 @@ module _ {A : Type 0} where
   record_at form before image at end =
       at_gate form image at end (λ size. found (at + 1) (at + 1 + size) (record_of form before (data_from image (at + 1) size)))
 
-  -- the record that these bytes are; other bytes are a fault of the first data sector
+  -- What `bytes_at` found, judged: the record that the bytes are after so many accepted commands. Bytes that are none are a
+  -- fault of the first data sector.
   abbrev pub judged : Form → ℕ → Sector → Result (Option (List Byte × Sector)) Sector → Found A
   judged form before at (Err s) = Err s
   judged form before at (Ok None) = Ok None
   judged form before at (Ok (Some bytes_and_next)) = found (at + 1) bytes_and_next.1 (record_of form before bytes_and_next.0)
 
-  -- a half with more records before its own
+  -- a half with these records before its own; a sector at fault stays
   abbrev pub with_prefix : List (Entry A) → Half A → Half A
   with_prefix prefix (Ok half) = Ok (prefix ++ half.0, half.1)
   with_prefix prefix (Err at) = Err at
@@ -101,7 +103,7 @@ module _ {A : Type 0} where
   abbrev pub half_of : Form → ℕ → List (List Byte) → Sector → Sector → Half A
   half_of form before image first end = half_from (end - first) form before image first end
 
-  -- how many commands are accepted with those of these records
+  -- how many commands are accepted after `before` commands and those of these records
   abbrev pub counted : ℕ → List (Entry A) → ℕ
   counted before [] = before
   counted before (entry ∷ entries) = counted (before + length entry.1) entries

@@ -17,7 +17,7 @@ abbrev pub TextsAreReadBack : Type 0 → Type 0
 TextsAreReadBack A = (form : Form) (before : ℕ) (commands : List (Asked A)) (z : ℕ) → before < last_number → IsRecord commands
     → record_of form before (record_text form before commands ++ replicate z 0) ≡ Some commands
 
--- commands that bytes are read as may be those of a record
+-- the commands that bytes are read as are such that a record may have them (`IsRecord`)
 abbrev pub ReadAreInRange : Type 0 → Type 0
 ReadAreInRange A = (form : Form) (before : ℕ) (commands : List (Asked A)) (bytes : List Byte) → AreBytes bytes → record_of form before bytes ≡ Some commands
     → IsRecord commands
@@ -33,11 +33,12 @@ ClosedIsEmpty A disk = (first end : Sector) (before : ℕ) (form : Form) → fir
     → ((image : List (List Byte)) → IsImageOf disk image → IsClosed (sector image first))
     → IsSettled {A = A} disk (record { first = first; end = end; next = first; form = form; count = before }) before []
 
--- what a half reads as up to the next gate of a place
+-- the half of a place reads as these records, and its first closed gate is the place's next gate
 abbrev pub ReadsUpTo : {A : Type 0} → View → Place → ℕ → List (Entry A) → Type 0
 ReadsUpTo disk place before entries = half_of place.form before disk.reads place.first place.end ≡ Ok (entries, place.next)
 
--- where nothing is pending, a half holds in each image what it reads as
+-- Where nothing is pending, the half of a place holds in each image the records that it reads as up to the place's next gate.
+-- The place counts their commands too.
 abbrev pub ReadIsHeld : Type 0 → View → Type 0
 ReadIsHeld A disk = (place : Place) (before : ℕ) (entries : List (Entry A)) → place.first < place.end → place.next < place.end
     → counted before entries ≡ place.count → ((k : ℕ) → disk.pending k ≡ false) → ReadsUpTo disk place before entries → IsSettled disk place before entries

@@ -12,7 +12,8 @@ use Rattle.gated_journal.specs.declared.record.Record.{Record}
 use Rattle.gated_journal.specs.declared.fault.JournalError.{JournalError}
 use Rattle.gated_journal.specs.declared.fault.JournalError.TheVariants.{JournalFull, DiskFault, Damaged, NoMemory}
 
--- A `Damaged` that is reported is the fault that is there. `DiskFault` and `NoMemory` state nothing of the disk.
+-- What an error of a read states of what is there. `Damaged` names the sector at fault. `DiskFault` and `NoMemory` state
+-- nothing, and `JournalFull` does not come.
 abbrev pub Fails : {Y : Type 0} → JournalError → Result Y Sector → Type 0
 Fails (Damaged at) is = is ≡ Err at
 Fails DiskFault is = Unit {0}
@@ -24,14 +25,15 @@ abbrev pub Answers : {X Y : Type 0} → (X → Y) → Result X JournalError → 
 Answers view (Ok x) is = is ≡ Ok (view x)
 Answers view (Err e) is = Fails e is
 
--- an error that a call which reads answers; a damaged sector lies before the end of the half
+-- an error that a call which reads may answer: `DiskFault`, `NoMemory`, or `Damaged` with a sector before the end of the half
 abbrev pub IsOfReading : Sector → JournalError → Type 0
 IsOfReading end JournalFull = ⊥
 IsOfReading end DiskFault = Unit {0}
 IsOfReading end (Damaged at) = at < end
 IsOfReading end NoMemory = Unit {0}
 
--- an error that a call which judges answers: it takes no memory
+-- an error that a call which only judges may answer: `DiskFault`, or `Damaged` with a sector before the end of the half; not
+-- `NoMemory`, as it takes none
 abbrev pub IsOfJudging : Sector → JournalError → Type 0
 IsOfJudging end JournalFull = ⊥
 IsOfJudging end DiskFault = Unit {0}
@@ -52,21 +54,22 @@ module _ {A : Type 0} where
   abbrev pub entry_view : Sector × Vec (Asked A) A → Entry A
   entry_view x = (x.0, x.1.items)
 
-  -- such records, in order
+  -- records that were read, in order, each with its first data sector
   abbrev pub entries_view : List (Sector × Vec (Asked A) A) → List (Entry A)
   entries_view xs = map entry_view xs
 
-  -- a record with its first data sector, and the gate after it
+  -- what was read at a gate: nothing, or a record's commands and this gate after it; the record's first data sector is left out
   abbrev pub next_view : Sector → Option (Sector × Vec (Asked A) A) → Option (List (Asked A) × Sector)
   next_view gate found = option_map (λ x. (x.1.items, gate)) found
 
-  -- the records from a gate on, and the closed gate after them, at which the place or the journal is then
+  -- what was read from a gate on: the records, and the next gate of the place or journal that continues after them
   abbrev pub half_view : Place × Vec (Sector × Vec (Asked A) A) A → List (Entry A) × Sector
   half_view x = (entries_view x.1.items, x.0.next)
 
   -- ---- where a journal is after what was read
 
-  -- a place in the same half, after these records
+  -- `after` is a place in the half of `place`, with records of the same form. Its next gate is that of `place` or a later one,
+  -- before the half's end. It counts the commands of these records too.
   pub record Continues (place after : Place) (entries : List (Entry A)) : Type 0 where
     pub first : after.first ≡ place.first
     pub end : after.end ≡ place.end
@@ -75,7 +78,8 @@ module _ {A : Type 0} where
     pub within : after.next < place.end
     pub count : after.count ≡ counted place.count entries
 
-  -- A journal moves on to the gate after the record that was read, and stays where there is none.
+  -- Where a journal is after it has read at its next gate. After a record its next gate is a later one in the half, and it
+  -- counts the record's commands too. Where there was none, the journal has not changed.
   pub record MovesOn (place after : Place) (result : Result (Option (Sector × Vec (Asked A) A)) JournalError) : Type 0 where
     pub at : IfOk result (λ found. IfSome found (λ x. (x.0 ≡ place.next + 1) × (x.0 < after.next)))
     pub first : after.first ≡ place.first
@@ -88,13 +92,14 @@ module _ {A : Type 0} where
 
   -- ---- what is judged and not kept
 
-  -- a record of so many commands is there, with this next gate; or nothing is
+  -- What a judgement answers is what is at the gate: nothing, or a record of so many commands and this next gate. An error is
+  -- as `Fails` states.
   abbrev pub IsJudged : Result (Option (ℕ × Sector)) JournalError → Found A → Type 0
   IsJudged (Ok None) is = is ≡ Ok None
   IsJudged (Ok (Some count_and_next)) is = (commands : List (Asked A)) × (length commands ≡ count_and_next.0) × (is ≡ Ok (Some (commands, count_and_next.1)))
   IsJudged (Err e) is = Fails e is
 
-  -- there are records alone, up to a closed gate
+  -- At `Ok` there are records alone, up to a closed gate. An error is as `Fails` states.
   abbrev pub AreJudged : Result Unit JournalError → Half A → Type 0
   AreJudged (Ok u) is = (held : List (Entry A) × Sector) × (is ≡ Ok held)
   AreJudged (Err e) is = Fails e is
@@ -109,7 +114,7 @@ HasCalledTimes old new times = length new.calls ≡ length old.calls + times
 abbrev pub HasRecord : Type 0 → Form → ℕ → List (List Byte) → Sector → Sector → Type 0
 HasRecord A form before image at end = (x : List (Asked A) × Sector) × (record_at form before image at end ≡ Ok (Some x))
 
--- from the gate on there are records alone, up to a closed one
+-- from the gate `at` on there are records alone, up to a closed gate
 abbrev pub HasRecords : Type 0 → Form → ℕ → List (List Byte) → Sector → Sector → Type 0
 HasRecords A form before image at end = (held : List (Entry A) × Sector) × (half_of form before image at end ≡ Ok held)
 
@@ -117,14 +122,15 @@ HasRecords A form before image at end = (held : List (Entry A) × Sector) × (ha
 abbrev pub HasRecordIn : Type 0 → Place → View → Type 0
 HasRecordIn A place disk = HasRecord A place.form place.count disk.reads place.next place.end
 
--- from the next gate of a place on there are records alone, up to a closed one, as the disk reads
+-- from the next gate of a place on there are records alone, up to a closed gate, as the disk reads
 abbrev pub HasRecordsIn : Type 0 → Place → View → Type 0
 HasRecordsIn A place disk = HasRecords A place.form place.count disk.reads place.next place.end
 
--- nothing was read, or from the next gate of a place on there are records alone
+-- the disk had no call, or from the next gate of a place on there are records alone, up to a closed gate
 abbrev pub IsUnreadOrWhole : Type 0 → Place → View → View → Type 0
 IsUnreadOrWhole A place old new = (new.calls ≡ old.calls) ⊎ HasRecordsIn A place old
 
--- Each sector of the records from the next gate of a place on is read once, and that of the closed gate after them.
+-- Where there are records alone from the next gate of a place on, the disk has had one call for each sector from that gate up
+-- to the closed one after them, with both gates.
 abbrev pub IsReadOnce : Type 0 → Place → View → View → Type 0
 IsReadOnce A place old new = (held : List (Entry A) × Sector) → half_in A place old ≡ Ok held → HasCalledTimes old new (held.1 + 1 - place.next)

@@ -65,7 +65,7 @@ abbrev pub given : {B : Type 0} (A : Type 0) → List (Bor (Asked B)) → List (
 given A commands = map (λ command. under A command.now) commands
 
 module _ {A : Type 0} where
-  -- commands as bytes, after so many accepted commands
+  -- these commands as the parts of a record of this form, after so many accepted commands
   abbrev pub pack : Form → ℕ → List (Asked A) → Packed
   pack form before commands = record { count = length commands; first = first_of form before; bytes = flat_map command_text commands }
 
@@ -125,7 +125,7 @@ module _ {A : Type 0} where
     commands ← commands_in packed.count packed.bytes
     Some (packed.first, commands)
 
-  -- the commands of a record after so many accepted commands
+  -- the commands of the record that these data sectors are, if it may follow so many accepted commands
   abbrev pub record_of : Form → ℕ → List Byte → Option (List (Asked A))
   record_of form before bytes = do
     stated ← stated_of form bytes

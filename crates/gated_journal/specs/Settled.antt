@@ -51,7 +51,7 @@ record_in A place disk = record_at {A = A} place.form place.count disk.reads pla
 abbrev pub half_in : (A : Type 0) → Place → View → Half A
 half_in A place disk = half_of {A = A} place.form place.count disk.reads place.next place.end
 
--- all sectors outside of two halves read as before
+-- all sectors outside the halves of x and y read in new as in old
 abbrev pub IsSameOutsideBoth : Place → Place → View → View → Type 0
 IsSameOutsideBoth x y old new = (k : ℕ) → (k < x.first) ⊎ (x.end ≤ k) → (k < y.first) ⊎ (y.end ≤ k) → sector new.reads k ≡ sector old.reads k
 
@@ -65,11 +65,11 @@ module _ {A : Type 0} where
   abbrev pub IsHalf : List (List Byte) → Place → ℕ → List (Entry A) → Type 0
   IsHalf image place before entries = (gate : Sector) × (half_of place.form before image place.first place.end ≡ Ok (entries, gate))
 
-  -- it reads as these records, with one more or without it
+  -- in this image the half of a place reads as these records, with one more after them or without it
   abbrev pub IsWithOrWithout : Place → ℕ → List (Entry A) → Entry A → List (List Byte) → Type 0
   IsWithOrWithout place before entries last image = IsHalf image place before entries ⊎ IsHalf image place before (entries ++ last ∷ [])
 
-  -- An image of the old disk but for the half, which reads as these records, with one more or without it.
+  -- The image is one of the old disk but for the half, which reads as these records, with one more after them or without it.
   pub record Leaves (old : View) (place : Place) (before : ℕ) (entries : List (Entry A)) (last : Entry A) (image : List (List Byte)) : Type 0 where
     pub elsewhere : IsTornImage old place.first (place.end - place.first) image
     pub half : IsWithOrWithout place before entries last image
@@ -82,19 +82,20 @@ module _ {A : Type 0} where
     pub counts : counted before entries ≡ place.count
     pub half : (image : List (List Byte)) → IsImageOf disk image → half_of place.form before image place.first place.end ≡ Ok (entries, place.next)
 
-  -- the half reads so with one more record
+  -- in every image the half of a place reads as these records and one more after them, as `IsSettled` states
   abbrev pub HasOneMore : View → Place → ℕ → List (Entry A) → Entry A → Type 0
   HasOneMore disk place before entries last = IsSettled disk place before (entries ++ last ∷ [])
 
-  -- two halves, each after so many accepted commands and with its own records
+  -- in every image each of two halves reads as its own records, after its own count of accepted commands
   abbrev pub AreSettled : View → Place → Place → ℕ → ℕ → List (Entry A) → List (Entry A) → Type 0
   AreSettled disk x y before start entries others = IsSettled disk x before entries × IsSettled disk y start others
 
-  -- each of two halves with one more record
+  -- in every image each of two halves reads as its own records and one more after them
   abbrev pub HaveOneMore : View → Place → Place → ℕ → ℕ → List (Entry A) → List (Entry A) → Entry A → Entry A → Type 0
   HaveOneMore disk x y before start entries others last other = AreSettled disk x y before start (entries ++ last ∷ []) (others ++ other ∷ [])
 
-  -- An image of the old disk but for two halves, each of which reads as its records, with one more or without it.
+  -- The image is one of the old disk but for two halves. Each of them reads as its records, with one more after them or without
+  -- it; one may have it and the other not.
   pub record LeavesBoth (old : View) (x y : Place) (before start : ℕ) (entries others : List (Entry A)) (last other : Entry A)
       (image : List (List Byte)) : Type 0 where
     pub elsewhere : IsTornTwiceImage old x.first (x.end - x.first) y.first (y.end - y.first) image

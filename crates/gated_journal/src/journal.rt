@@ -137,7 +137,7 @@ impl<A: Allocator> Journal<A> {
         ensures same { OnErr result (self.new ≡ self.old) }
         ensures keeps { KeepsDisk (D.view disk.old) (D.view disk.new) (IsErrOf result JournalError.DiskFault) }
 
-        // It does not give up by itself.
+        // It fails only where the record has no room, or where the device has failed.
         ensures kinds { IfErr result IsOfAppend }
         ensures full { IsErrOf result JournalError.JournalFull → room_of self.old < data_size (text_at A self.old commands.now) }
         ensures no_room { room_of self.old < data_size (text_at A self.old commands.now)
@@ -176,7 +176,7 @@ impl<A: Allocator> Journal<A> {
         ensures same { OnErr result ((self.new ≡ self.old) × (other.new ≡ other.old)) }
         ensures keeps { KeepsDisk (D.view disk.old) (D.view disk.new) (IsErr result) }
 
-        // It does not give up by itself.
+        // It fails only where the device has failed.
         ensures kinds { IfErr result (λ e. e ≡ JournalError.DiskFault) }
     {
         put_record(&mut self.text, &self.place, commands);
@@ -207,7 +207,8 @@ impl<A: Allocator> Journal<A> {
         ensures exact { (D.view disk.old).honest → AreJudged result (half_in A self.old (D.view disk.old)) }
         ensures same { self.new ≡ self.old }
 
-        // It only reads, and does not give up by itself.
+        // It only reads. `DiskFault` comes only where the device has failed. At `Ok` the disk has had one call for each sector
+        // up to the closed gate after the records.
         ensures reads { OnlyReads (D.view disk.old) (D.view disk.new) (IsErrOf result JournalError.DiskFault) }
         ensures calls { (D.view disk.old).honest → OnOk result (IsReadOnce A self.old (D.view disk.old) (D.view disk.new)) }
         ensures kinds { IfErr result (IsOfJudging self.old.end) }
@@ -238,7 +239,8 @@ impl<A: Allocator + Clone> Journal<A> {
         ensures moves { MovesOn self.old self.new result }
         ensures same { OnErr result (self.new ≡ self.old) }
 
-        // It only reads, and does not give up by itself. Each sector of a record is read once.
+        // It only reads. `DiskFault` comes only where the device has failed, and `NoMemory` only after a call of the disk. For
+        // a record the disk has had one call for its gate and for each of its data sectors.
         ensures reads { OnlyReads (D.view disk.old) (D.view disk.new) (IsErrOf result JournalError.DiskFault) }
         ensures calls { IfOk result (λ found. IfSome found (λ x.
             HasCalledTimes (D.view disk.old) (D.view disk.new) (self.new.next - self.old.next))) }
@@ -278,7 +280,7 @@ impl<A: Allocator + Copy> Journal<A> {
         // The journal continues after the records.
         ensures continues { IfOk result (λ x. Continues place x.0 (entries_view x.1.items)) }
 
-        // It only reads, and does not give up by itself.
+        // It only reads. `DiskFault` comes only where the device has failed.
         ensures reads { OnlyReads (D.view disk.old) (D.view disk.new) (IsErrOf result JournalError.DiskFault) }
         ensures kinds { IfErr result (IsOfReading place.end) }
     {

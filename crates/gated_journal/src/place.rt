@@ -54,7 +54,7 @@ impl Place {
         ensures same { OnErr result (self.new ≡ self.old) }
         ensures keeps { KeepsDisk (D.view disk.old) (D.view disk.new) (IsErrOf result JournalError.DiskFault) }
 
-        // It does not give up by itself.
+        // It fails only where the record has no room, or where the device has failed.
         ensures kinds { IfErr result IsOfAppend }
         ensures full { IsErrOf result JournalError.JournalFull → room_of self.old < data_size text.now }
         ensures no_room { room_of self.old < data_size text.now → (result ≡ Err JournalError.JournalFull) × (disk.new ≡ disk.old) }

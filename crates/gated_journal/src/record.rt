@@ -15,7 +15,8 @@ const MOST_COMMANDS: u64 = 64;
 /// How many bytes a command may have.
 pub(crate) const LONGEST_COMMAND: u64 = 281;
 
-// Whether each byte is zero: the first one is, and each other one equals the one before it. So many are compared at a time.
+// Whether each byte is zero: the first one is, and each other one equals the one before it. So two slices are compared, in
+// place of one byte after the other.
 fn are_zeros(bytes: &[u8]) -> bool
     ensures { result ≡ list_all is_zero bytes.now }
 {
@@ -138,7 +139,7 @@ fn whole<A: Allocator + Clone>(
     }
 }
 
-// How many commands of a record there are, where all of them are commands. Takes no memory.
+// The number of a record's commands, or `None` where its bytes are not so many commands. Takes no memory.
 fn count_of<A: Allocator>(packed: &Packed<'_>) -> Option<u64>
     ensures { result ≡ option_map (λ commands. length commands) (commands_in {A = A} packed.now.count packed.now.commands.now) }
 {

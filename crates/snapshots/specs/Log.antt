@@ -11,7 +11,7 @@ use Rattle.centre_core.specs.State.{State, empty}
 abbrev pub IsCounted : List Cell → List (Asked Global) → Type 0
 IsCounted cells log = cells ≡ (length log, true) ∷ (0, true) ∷ []
 
--- that first word
+-- the first word of the book, which counts the commands of the list
 abbrev pub word_of : Book → Named
 word_of b = record { tracked = true; key = 0; book = b }
 
@@ -42,6 +42,6 @@ some_limits = record {
 abbrev pub some_base : State
 some_base = empty some_limits
 
--- a placeholder for the book, likewise: it has no names
+-- a placeholder for the book, without names: each caller that makes a centre names its own
 abbrev pub some_book : Book
 some_book = record { number = 0; log_name = 0; cells_name = 0 }

@@ -20,7 +20,7 @@ view_of seen = record { seen = seen }
 abbrev pub IsSnapshot : State → Book → Snapshot → Type 0
 IsSnapshot base book x = (x.register ≡ after base x.list.log) × IsHistory base x.list.log × (x.list.book ≡ book)
 
--- the published copy is one, and its list begins with what each viewer has seen
+-- the published copy is a snapshot (`IsSnapshot`), and its list begins with what each viewer has seen
 abbrev pub IsSeenBy : State → Book → Snapshot → List View → Type 0
 IsSeenBy base book x views = IsSnapshot base book x × ((seat : ℕ) (v : View) → get_elem? views seat ≡ some v → IsPrefix v.seen x.list.log)
 

@@ -37,7 +37,7 @@ impl<J: Centre> Published<J> {
         self.count
     }
 
-    /// The same list again.
+    /// Another value of this list.
     pub fn copy(&self) -> Published<J>
         ensures { result ≡ self.now }
     {

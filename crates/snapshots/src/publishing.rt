@@ -41,7 +41,7 @@ fn publish_writer<J: Centre, R: Wait>(
     writer.publish_as::<Sees<J>, R>(rt)
 }
 
-// The same in place.
+// Publishes what the writer has, as `publish_writer` does, but in place.
 pub fn publish_now<J: Centre, R: Wait>(
     rt: &R,
     writer: &mut SnapshotWriter<J>,

@@ -70,7 +70,7 @@ fn answered<J: Centre, C: Allocator + Copy>(
     }
 }
 
-// The same in place.
+// The answer of the published copy, as `answered` gives it; the viewer is changed in place.
 fn answer_in_place<J: Centre, C: Allocator + Copy>(
     viewer: &mut Viewer<J>,
     asked: (&Query, C),
@@ -108,7 +108,7 @@ fn listed<J: Centre, C: Allocator + Copy>(
     }
 }
 
-// The same in place.
+// The text with the listing, as `listed` gives it; the viewer is changed in place.
 fn list_in_place<J: Centre, C: Allocator + Copy>(
     viewer: &mut Viewer<J>,
     text: Vec<u8, C>,
@@ -131,8 +131,8 @@ fn list_in_place<J: Centre, C: Allocator + Copy>(
 
 impl<J: Centre> Viewer<J> {
     /// The answer to a query after a list of commands, kept under `alloc`, with the length of that list. Each of them was
-    /// accepted in its turn, and the list begins with all that the viewer has seen or learnt. It never waits. `NoMemory` comes only where the answer is a list; the
-    /// viewer may then have seen more. After `Closed` nothing has changed.
+    /// accepted in its turn, and the list begins with all that the viewer has seen or learnt. It never waits. `NoMemory` comes
+    /// only where the answer is a list; the viewer may then have seen more. After `Closed` nothing has changed.
     pub fn read<C: Allocator + Copy>(
         &mut self,
         alloc: C,
@@ -154,8 +154,8 @@ impl<J: Centre> Viewer<J> {
     }
 
     /// Adds the text of a listing after a list of commands to `out`. Each of them was accepted in its turn, and the list
-    /// begins with all that the viewer has seen or learnt. It never waits. If it fails, `out` is unchanged. `NoMemory` comes only where the text has no room; the viewer may
-    /// then have seen more. After `Closed` nothing has changed.
+    /// begins with all that the viewer has seen or learnt. It never waits. If it fails, `out` is unchanged. `NoMemory` comes
+    /// only where the text has no room; the viewer may then have seen more. After `Closed` nothing has changed.
     pub fn list<C: Allocator + Copy>(
         &mut self,
         listing: &Listing,

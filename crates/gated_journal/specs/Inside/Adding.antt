@@ -1,4 +1,4 @@
--- What the append of a text leaves, of whatever commands the text is.
+-- What the append of a text does to the disk and to the place, whatever commands the text is of.
 use Rattle.std.specs.Prelude.{◌≡◌, ◌+◌, ℕ, List, OnOk, Result, false}
 use Rattle.identity.specs.Numbers.{Byte}
 use Rattle.centre_core.specs.Asked.{Asked}
@@ -12,7 +12,8 @@ use Rattle.gated_journal.specs.Settled.{HasOneMore, HaveOneMore, IsSameOutsideBo
 use Rattle.gated_journal.specs.declared.place.Place.{Place}
 
 module _ (A : Type 0) {E : Type 0} where
-  -- This text is added to the half of a place. The fields are those of `AddsOne`.
+  -- What the append of this text does to the disk and to a place. The fields are those of `AddsOne`, for any commands that have
+  -- this text. `after` does not count them yet.
   pub record AddsText (old new : View) (place after : Place) (text : List Byte) (result : Result Unit E) : Type 0 where
     pub any_moment : (before : ℕ) (entries : List (Entry A)) (commands : List (Asked A)) → IsNext place commands text → old.honest
         → IsSettled old place before entries → LeavesOnly old new (Leaves old place before entries (place.next + 1, commands))
@@ -24,7 +25,8 @@ module _ (A : Type 0) {E : Type 0} where
     pub calls : OnOk result (HasCalled old new (append_calls place.next text))
     pub some_calls : HasMade old new (append_calls place.next text)
 
-  -- These texts are added to the halves of two places. The fields are those of `AddsToBoth`.
+  -- What the append of these texts, one to each half, does to the disk and to two places. The fields are those of `AddsToBoth`,
+  -- for any commands that have both texts. `x_after` and `y_after` do not count them yet.
   pub record AddsTexts (old new : View) (x x_after y y_after : Place) (text other : List Byte) (result : Result Unit E) : Type 0 where
     pub any_moment : (before start : ℕ) (entries others : List (Entry A)) (commands : List (Asked A)) → IsNext x commands text → IsNext y commands other
         → old.honest → IsSettled old x before entries → IsSettled old y start others

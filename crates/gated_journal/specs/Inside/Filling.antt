@@ -12,8 +12,8 @@ use Rattle.gated_journal.specs.Record.{data_sector}
 use Rattle.gated_journal.specs.Twice.{IsTornTwiceImage}
 use Rattle.gated_journal.specs.declared.both.Run.{Run}
 
--- Two runs of writes: n sectors from at on, and then m sectors from to on, with these bytes. Until both end, these sectors may
--- hold anything.
+-- Two runs of writes: n sectors from `at` on with the bytes of `bytes`, and then m sectors from `to` on with those of `more`.
+-- A stop may leave anything in these sectors, and in all others what it could leave before. At `Ok` they read as the bytes.
 pub record HasFilledTwice (old new : View) (at : Sector) (n : Sectors) (bytes : ℕ → List Byte) (to : Sector) (m : Sectors)
     (more : ℕ → List Byte) (result : Result Unit DiskError) : Type 0 where
   pub honest : new.honest
@@ -24,17 +24,19 @@ pub record HasFilledTwice (old new : View) (at : Sector) (n : Sectors) (bytes : 
   pub written : OnOk result ((k : ℕ) → k < n → sector new.reads (at + k) ≡ bytes k)
   pub also : OnOk result ((k : ℕ) → k < m → sector new.reads (to + k) ≡ more k)
 
--- Runs of writes, and the sync after them if there is one. A call that fails is the last, and it fails only if the device does.
+-- At `Ok` the disk has had all of these calls, and after an error a prefix of them. The error is never `OutOfRange`, and comes
+-- only where the device has failed.
 pub record Runs (old new : View) (made : List Call) (result : Result Unit DiskError) : Type 0 where
   pub calls : OnOk result (HasCalled old new made)
   pub some_calls : HasMade old new made
   pub keeps : KeepsDisk old new (IsErr result)
   pub in_range : IsErrOf result OutOfRange → ⊥
 
--- two runs of a text's sectors are filled
+-- What two runs of writes do to the disk (`HasFilledTwice`): first that of x, then that of y. A run writes the first sectors of
+-- its text, as many as it states, from its sector `at` on.
 abbrev pub AreFilled : View → View → Run → Run → Result Unit DiskError → Type 0
 AreFilled old new x y result = HasFilledTwice old new x.at x.sectors (data_sector x.text.now) y.at y.sectors (data_sector y.text.now) result
 
--- both runs are written and synced
+-- the sectors of x are written, then those of y, and both are synced
 abbrev pub both_calls : Run → Run → List Call
 both_calls x y = settled_both_calls x.at x.sectors x.text.now y.at y.sectors y.text.now

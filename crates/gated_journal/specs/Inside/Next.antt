@@ -6,19 +6,21 @@ use Rattle.centre_core.specs.State.{last_number}
 use Rattle.gated_journal.specs.Record.{IsRecord, most_commands, record_text}
 use Rattle.gated_journal.specs.declared.place.Place.{Place}
 
--- the next record of the place may have so many commands
+-- The next record of the place may have so many commands: 1 to `most_commands`. The number of the first one is at most
+-- `last_number`.
 pub record IsCountOfNext (place : Place) (count : ℕ) : Type 0 where
   pub some : 1 ≤ count
   pub few : count ≤ most_commands
   pub number : place.count < last_number
 
 module _ {A : Type 0} where
-  -- these commands may be the next record of the place, with this text
+  -- These commands may be those of the next record of the place, and this is its text. The number of the first one is at most
+  -- `last_number`.
   pub record IsNext (place : Place) (commands : List (Asked A)) (text : List Byte) : Type 0 where
     pub record_is : IsRecord commands
     pub number : place.count < last_number
     pub text_is : text ≡ record_text place.form place.count commands
 
-  -- the place, with these commands counted
+  -- the place, which counts these commands too; its next gate stays
   abbrev pub counting : Place → List (Asked A) → Place
   counting place commands = record place { count = place.count + length commands }

@@ -59,7 +59,8 @@ returns-in_err-read-clause-made g c =
     let new : View = g.D.Disk.view c.read.new.self in
     let place : c.root-root.result ≡ root_at (other_of c.args.current) = c.root-root.ensures ∙ ap root_at c.other.ensures in
     let tried = root_tried (other_of c.args.current) old new c.read.result (rw place at c.read.ensures.called) in
-    root_failed old new (other_of c.args.current) (root_calls_by (other_of c.args.current)) _ c.from_residual.ensures.0 (λ honest. tried (is_root_open (other_of c.args.current) old.reads)) (false, tried false)
+    root_failed old new (other_of c.args.current) (root_calls_by (other_of c.args.current)) _ c.from_residual.ensures.0
+    (λ honest. tried (is_root_open (other_of c.args.current) old.reads)) (false, tried false)
 
 pub returns-then-bytes-ne1-clause-made : goal.returns-then-bytes-ne1-clause-made
 returns-then-bytes-ne1-clause-made g c =

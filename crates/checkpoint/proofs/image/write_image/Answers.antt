@@ -172,7 +172,8 @@ returns-in_err-sync-clause-keeps g c =
     let mid : View = g.D.Disk.view c.begin.new.disk in
     let wrote : View = g.D.Disk.view c.write_rows.new.disk in
     let new : View = g.D.Disk.view c.sync.new.self in
-    keeps_on old wrote new (keeps_on old mid wrote (kept_done {X = ⊥} old mid _ c.in_ok-begin.ensures.cause c.begin.ensures.honest (λ e. e)) (kept_none mid wrote c.in_ok-write_rows.ensures.rows.keeps) (λ e. e))
+    keeps_on old wrote new (keeps_on old mid wrote (kept_done {X = ⊥} old mid _ c.in_ok-begin.ensures.cause c.begin.ensures.honest (λ e. e))
+    (kept_none mid wrote c.in_ok-write_rows.ensures.rows.keeps) (λ e. e))
     (kept_failing wrote new _ c.in_err-sync.ensures.cause (λ honest. (c.in_err-sync.ensures.effect honest).honest) refl c.in_err-sync.ensures.in_range) (λ e. e)
 
 pub returns-clause-keeps : goal.returns-clause-keeps
@@ -181,5 +182,6 @@ returns-clause-keeps g c =
     let mid : View = g.D.Disk.view c.begin.new.disk in
     let wrote : View = g.D.Disk.view c.write_rows.new.disk in
     let new : View = g.D.Disk.view c.sync.new.self in
-    keeps_on old wrote new (keeps_on old mid wrote (kept_done {X = ⊥} old mid _ c.in_ok-begin.ensures.cause c.begin.ensures.honest (λ e. e)) (kept_none mid wrote c.in_ok-write_rows.ensures.rows.keeps) (λ e. e))
+    keeps_on old wrote new (keeps_on old mid wrote (kept_done {X = ⊥} old mid _ c.in_ok-begin.ensures.cause c.begin.ensures.honest (λ e. e))
+    (kept_none mid wrote c.in_ok-write_rows.ensures.rows.keeps) (λ e. e))
     (kept_done wrote new _ c.in_ok-sync.ensures.cause (λ honest. (c.in_ok-sync.ensures.effect honest).honest) (λ e. cc)) (λ e. e)

@@ -61,7 +61,8 @@ returns-in-Some-2-clause-reads g c =
     record {
       reads = reads_where old new was.reads (λ e. absurd cc);
       exact = λ honest. let found = rw c.in-Some.is at (was.exact honest) in
-          some_record c.args.place.now.form c.args.place.now.count old.reads c.args.place.now.next c.args.place.now.end c.read_data.new.buffer.items c.in-Some.next c.in-Some-2.commands.items found some;
+          some_record c.args.place.now.form c.args.place.now.count old.reads c.args.place.now.next c.args.place.now.end c.read_data.new.buffer.items c.in-Some.next
+          c.in-Some-2.commands.items found some;
       capacity = was.capacity;
     }
 
