@@ -2,7 +2,7 @@
 ghost use Rattle.std.specs.Prelude.{◌≡◌, ◌<◌, true, false, [], ◌∷◌, ◌++◌, IfOk, MatchOption};
 ghost use mathlib.Core.List.{IsPrefix};
 ghost use Rattle.crossbeam_channel.specs.Claims.{view, IsSeatAt};
-ghost use Rattle.crossbeam_channel.specs.Ends.{sends_on, receives_on};
+ghost use Rattle.crossbeam_channel.specs.Ends.{sends_on, receives_on, ruled_capacity};
 ghost use Rattle.answers.specs.Views.{view_of, sent_of, received_of};
 ghost use Rattle.answers.specs.Sent.{HasSent, AreEnds};
 
@@ -36,13 +36,14 @@ pub struct AnswerReceiver<T: Drop> {
 }
 
 /// The two ends of a channel with room for so many messages. Nothing was sent yet. With room for each command that a session
-/// has under way at a time, the sender never waits for the session.
+/// has under way at a time, the sender never waits for the session; no clause says so.
 pub fn open_channel<T: Drop>(
     alloc: Global,
     room: usize,
 ) -> Result<(AnswerSender<T>, AnswerReceiver<T>), AllocError>
     requires { 0 < room }
-    ensures { IfOk result (λ r. AreEnds (sends_on r.0.channel) (receives_on r.1.channel) (sent_of r.0.pass) (received_of r.1.pass) r.0.gone) }
+    ensures ends { IfOk result (λ r. AreEnds (sends_on r.0.channel) (receives_on r.1.channel) (sent_of r.0.pass) (received_of r.1.pass) r.0.gone) }
+    ensures room { IfOk result (λ r. ruled_capacity (sends_on r.0.channel) ≡ room) }
 {
     let (sending, receiving, mut pass) = bounded_with(alloc, room)?;
     let other = sending.another::<Halves>(&mut pass);

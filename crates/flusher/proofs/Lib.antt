@@ -12,6 +12,7 @@ pub mod Served
 pub mod Ready
 pub mod Bearing
 pub mod Submitting
+pub mod Found
 pub mod Together
 pub mod Beginning
 pub mod Endings

@@ -26,7 +26,7 @@ zip_at R (a ∷ xs) (b ∷ ys) all (suc k) x y here there = zip_at R xs ys all.1
 
 module _ {J : Type 0} where
   pub same_self : (s : Session J) → IsSameSession s s
-  same_self s = record { queue = refl; station = refl; channel = refl; share = refl }
+  same_self s = record { queue = refl; station = refl; channel = refl; share = refl; gone = λ e. e }
 
   pub same_on : (s t u : Session J) → IsSameSession s t → IsSameSession t u → IsSameSession s u
   same_on s t u first second = record {
@@ -34,6 +34,7 @@ module _ {J : Type 0} where
     station = second.station ∙ first.station;
     channel = second.channel ∙ first.channel;
     share = second.share ∙ first.share;
+    gone = λ e. first.gone (second.gone e);
   }
 
   -- what only reads keeps the session as it is
@@ -43,6 +44,7 @@ module _ {J : Type 0} where
     station = ap (λ (x : Sending). x.station) read.sender;
     channel = ap (λ (r : AnswerReceiver Sent). receives_on r.channel) read.receiver;
     share = read.share;
+    gone = λ e. sym read.listening ∙ e;
   }
 
 module _ {J D : Type 0} (f : FlusherView D) where

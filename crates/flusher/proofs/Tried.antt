@@ -82,7 +82,14 @@ module _ {D : Type 0} (view : D → View) (old new : StoreView Global D) where
   tried_by cmds (Err Unformatted) sound some answered up only memory unready fault register kinds kept = absurd kinds
   tried_by cmds (Err BadGeometry) sound some answered up only memory unready fault register kinds kept = absurd kinds
   tried_by cmds (Err (Damaged at)) sound some answered up only memory unready fault register kinds kept = absurd kinds
-  tried_by cmds (Err DiskFault) sound some answered up only memory unready fault register kinds kept = record { broken = fault refl; some = some; in_checkpoint = false; register = register }
+  tried_by cmds (Err DiskFault) sound some answered up only memory unready fault register kinds kept = record {
+    broken = fault refl;
+    some = some;
+    in_checkpoint = false;
+    lacks = λ e. absurd (true≢false (sym e));
+    unmoved = λ e. absurd (true≢false (sym e));
+    register = register;
+  }
   tried_by cmds (Err Broken) sound some answered up only memory unready fault register kinds kept = absurd (true≢false (sym (only refl) ∙ sound))
   tried_by cmds (Err NoMemory) sound some answered up only memory unready fault register kinds kept = memory refl
   tried_by cmds (Err EpochsUsedUp) sound some answered up only memory unready fault register kinds kept = absurd kinds
@@ -210,7 +217,9 @@ module _ {D : Type 0} (cmds : List G) (old mid new : StoreView Global D) (made_r
   answered_after (Err DiskFault) was now n out h = record {
     broken = h.broken;
     some = h.some;
-    in_checkpoint = h.in_checkpoint;
+    in_checkpoint = false;
+    lacks = λ e. absurd (true≢false (sym e));
+    unmoved = λ e. absurd (true≢false (sym e));
     register = elim h.register [ inl q ↦ inl (q ∙ u.register) | inr q ↦ inr (subst (λ s. IsAfterBatch s cmds new.register) u.register q) ];
   }
   answered_after (Err NoMemory) was now n out h = (
@@ -233,7 +242,7 @@ answered_at_once cmds old new r was now sound = answered_after cmds old old new 
 -- a checkpoint that was not made
 pub refused_before : {D : Type 0} (cmds : List G) (old new : StoreView Global D) (fault : StoreFault) (was now : Attempts) → (cmds ≡ [] → ⊥) →
     LacksRoom old.journal cmds → HasMadeRoom old new (Err fault) → IsRefusedBy cmds old new fault was now
-refused_before cmds old new DiskFault was now some lacks h = record { broken = h.1; some = some; in_checkpoint = true; register = inl h.0 }
+refused_before cmds old new DiskFault was now some lacks h = record { broken = h.1; some = some; in_checkpoint = true; lacks = λ e. lacks; unmoved = λ e. h.0; register = inl h.0 }
 refused_before cmds old new EpochsUsedUp was now some lacks h = (h.0, h.1, lacks)
 refused_before cmds old new NoMemory was now some lacks h = absurd h
 refused_before cmds old new Unready was now some lacks h = absurd h

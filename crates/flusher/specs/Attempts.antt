@@ -7,7 +7,7 @@ use Rattle.recovery.specs.declared.fault.StoreFault.TheVariants.{NoMemory}
 use Rattle.snapshots.specs.Counts.{IsNext}
 use Rattle.flusher.specs.declared.committing.Attempts.{Attempts}
 
--- none was tried
+-- no commit was tried
 abbrev pub none_tried : Attempts
 none_tried = record { count = 0; refused = false }
 
@@ -16,12 +16,12 @@ pub record HasAttempted (was : Attempts) (result : Result (Vec (Outcome Global) 
   pub counted : IsNext was.count now.count
   pub exact : IsTrue now.refused ↔ IsErrOf result NoMemory
 
--- one was tried in between, and the last one was out of memory
+-- a commit was tried between these two counts, and the last one was out of memory
 pub record WasOutOfMemory (was now : Attempts) : Type 0 where
   pub refused : now.refused ≡ true
   pub tried : now.count ≡ was.count → ⊥
 
--- one call of the publisher in between was out of memory, by how many were before and are now
+-- one call of the publisher was out of memory between these two counts of such calls
 abbrev pub HasBeenRefused : ℕ → ℕ → Type 0
 HasBeenRefused was now = IsNext was now
 

@@ -27,7 +27,7 @@ use Rattle.recovery.specs.Outcomes.{AreRecorded, IsAnswered, IsAfterBatch, Opens
 
 -- ---- taking
 
--- these entries were taken: 64, or fewer if the queue was found empty
+-- these entries were taken: 64, or fewer if the queue was found empty (if it takes none, perhaps in an earlier round)
 pub record HasTaken (old : Taking) (popped : List Entry) (new : Taking) : Type 0 where
   pub taken : new.taken ≡ old.taken ++ popped
   pub most : length popped ≤ 64
@@ -43,7 +43,7 @@ ended_by [] flags = flags
 ended_by (Submitted request ∷ xs) flags = ended_by xs flags
 ended_by (Ended station ∷ xs) flags = ended_by xs (slice_set flags (station - 1) true)
 
--- each is of one of the stations 1 to n
+-- each command is of one of the stations 1 to n
 abbrev pub AreWithin : ℕ → List (Asked Global) → Type 0
 AreWithin n cs = AllByRecursion (λ (c : Asked Global). (0 < c.station) × (c.station ≤ n)) cs
 
@@ -104,12 +104,15 @@ module _ {D : Type 0} (commands : List (Asked Global)) (old new : StoreView Glob
     pub lacks : made_room ≡ true → LacksRoom old.journal commands
     pub record_is : AreKept (not made_room)
 
-  -- the disk failed in the call: in a checkpoint before the commit, or in the commit. The register is the one before the call, or the one
-  -- after a prefix of the commands
+  -- The disk failed in the call: in a checkpoint before the commit, or in the commit. The register is the one before the call, or the one
+  -- after a prefix of the commands. If it failed in a checkpoint, a record of all the commands would not fit, and the register is the one
+  -- before the call
   pub record HasBroken : Type 0 where
     pub broken : new.broken ≡ true
     pub some : commands ≡ [] → ⊥
     pub in_checkpoint : Bool
+    pub lacks : in_checkpoint ≡ true → LacksRoom old.journal commands
+    pub unmoved : in_checkpoint ≡ true → new.register ≡ old.register
     pub register : (new.register ≡ old.register) ⊎ IsAfterBatch old.register commands new.register
 
   -- why a call on a sound store was refused. `was` and `now` count the commits tried before and after the call
@@ -148,7 +151,7 @@ module _ {D : Type 0} (view : D → View) where
     pub any_moment : LeavesOnly (view old.disk) (view new.disk) (OpensToEither Global old.register new.register)
     pub kept : new.broken ≡ false → IsStoredIn Global view new
 
-  -- so it is if the disk is honest and the register was stored on it before the call
+  -- if the disk is honest and the register was stored on it before the call, `KeepsImages` holds
   abbrev pub HoldsImages : StoreView Global D → StoreView Global D → Type 0
   HoldsImages old new = (view old.disk).honest → IsStoredIn Global view old → KeepsImages old new
 

@@ -13,8 +13,8 @@ use Rattle.flusher.specs.declared.decision.Decision.{Decision}
 use Rattle.flusher.specs.declared.decision.Decision.TheVariants as decision
 use Rattle.flusher.specs.Stages.{Sent, IsKeptOf}
 
--- These commands bear out a reply. Accepted: the command is among them at its number, with this reply. Kept: so is the station's command
--- of that sequence, or the base keeps it. Refused: the step refuses the command after them.
+-- These commands bear out a reply. Accepted: the command is among them at its number, with this reply. Kept: they or the base
+-- keep this number and reply for the command's station and sequence. Refused: the step refuses the command after them.
 abbrev pub IsReplyAfter : State → List (Asked Global) → Asked Global → Reply Global → Type 0
 IsReplyAfter base commands c (Accepted n p) = Lands base commands c n p
 IsReplyAfter base commands c (Kept n p) = IsKeptOf base commands c n p
@@ -37,6 +37,6 @@ AreBorneOut base durable low [] = Unit {0}
 AreBorneOut base durable low (x ∷ xs) =
     (place : ℕ) × (low ≤ place) × (place ≤ length durable) × IsBorneAt base durable place x × AreBorneOut base durable place xs
 
--- so are the answers that each station was sent, in that order
+-- the answers that each station was sent, in their order, are borne out by the durable commands (`AreBorneOut`)
 abbrev pub AreSentInOrder : State → List (Asked Global) → List (AnswerSender Sent) → Type 0
 AreSentInOrder base durable senders = (k : ℕ) (a : AnswerSender Sent) → slice_get senders k ≡ Some a → AreBorneOut base durable 0 (sent_of a.pass)

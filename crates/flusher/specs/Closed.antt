@@ -15,14 +15,14 @@ use Rattle.flusher.specs.Runs.{HasTakenEnds}
 use Rattle.flusher.specs.declared.session.Ended.{Ended}
 use Rattle.flusher.specs.declared.session.Session.{Session}
 
--- the session has ended: the same station, queue and channel
+-- the session has ended, and its end has the session's station, queue and channel
 pub record HasFinished {J : Type 0} (session : Session J) (end : Ended J) : Type 0 where
   pub queue : end.sender.queue ≡ session.sender.queue
   pub station : end.sender.station ≡ session.sender.station
   pub channel : receives_on end.receiver.channel ≡ receives_on session.receiver.channel
 
 module _ {J D : Type 0} where
-  -- this holds of each session, with its place and the sender of answers at that place
+  -- P holds of each ended session, with its place and the sender of answers at that place
   abbrev pub IsTrueOfEach : FlusherView D → List (Ended J) → (ℕ → AnswerSender Sent → Ended J → Type 0) → Type 0
   IsTrueOfEach f ended P = (k : ℕ) (a : AnswerSender Sent) (e : Ended J) → slice_get f.senders k ≡ Some a → slice_get ended k ≡ Some e → P k a e
 

@@ -48,7 +48,7 @@ module _ {J : Type 0} where
     pub seen : IsPrefix old.seen new.seen
     pub reached : HasReached base old.reached new.reached new.seen a
 
-  -- so were the answers to these commands, in order
+  -- each of these commands, in order, is answered as `IsHeard` states, from what was heard after the one before it
   abbrev pub AreHeard : State → List (Asked Global) → Heard → Heard → List (Answer J) → Type 0
   AreHeard base [] old new [] = new ≡ old
   AreHeard base [] old new (a ∷ answers) = ⊥

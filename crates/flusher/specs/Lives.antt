@@ -20,7 +20,7 @@ module _ {D : Type 0} (view : D → View) (base : State) where
     fails_under_way : (more : List (Asked Global)) → g.store.broken ≡ true → g.durable ≡ f.durable → AreUnderWay base g more
         → IsCall Global view (Open f.store) (Unanswered more) (Open g.store) → IsRoundCall f g (Unanswered more)
 
-  -- whatever happened in it
+  -- a round is a call of the store, whatever happened in it
   abbrev pub IsSomeCall : FlusherView D → FlusherView D → Type 0
   IsSomeCall f g = (event : Event Global) × IsRoundCall f g event
 

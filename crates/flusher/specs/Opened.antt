@@ -2,7 +2,7 @@
 use Rattle.std.specs.Prelude.{◌≡◌, ◌+◌, ◌&&◌, ℕ, Bool, false, All, List, [], length, replicate, slice_get, Some, nat_lt, nat_le}
 use Rattle.std.specs.declared.alloc.Global.{Global}
 use Rattle.atomic_table.specs.Seated.{TableId}
-use Rattle.crossbeam_channel.specs.Ends.{sends_on, receives_on}
+use Rattle.crossbeam_channel.specs.Ends.{sends_on, receives_on, ruled_capacity}
 use Rattle.registration.specs.Numbers.{Station}
 use Rattle.station_queue.specs.Ends.{Taking, sending, taking}
 use Rattle.station_queue.specs.Entries.{share_of}
@@ -25,8 +25,12 @@ module _ {J : Type 0} where
     pub channel :
         AreEnds (sends_on answers.channel) (receives_on session.receiver.channel) (sent_of answers.pass) (received_of session.receiver.pass) answers.gone
     pub viewer : session.viewer ≡ []
+    -- its channel has room for an answer to each command that it may have under way
+    pub room : ruled_capacity (sends_on answers.channel) ≡ session.share
+    -- it has not found its flusher gone
+    pub listening : session.listening ≡ false
 
-  -- such a session for each sender of answers, of stations 1, 2 and so on
+  -- a new session (`IsNewSession`) for each sender of answers, of stations 1, 2 and so on
   pub record AreNewSessions (queue : TableId) (senders : List (AnswerSender Sent)) (sessions : List (Session J)) : Type 0 where
     pub count : length sessions ≡ length senders
     pub each : (k : ℕ) (a : AnswerSender Sent) (s : Session J) → slice_get senders k ≡ Some a → slice_get sessions k ≡ Some s → IsNewSession queue (k + 1) a s

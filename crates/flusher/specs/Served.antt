@@ -72,7 +72,7 @@ module _ {D : Type 0} (base : State) (t : Tick) (f g : Progress D) (commands : L
   IsReason BadGeometry = ⊥
   IsReason (Damaged at) = ⊥
 
-  -- the commit was refused, and each command is answered so; what was durable is published
+  -- the commit was refused, and each command is answered with the reason; what was durable is published
   pub record AreRefused : Type 0 where
     pub fault : StoreFault
     pub reason : IsReason fault
@@ -90,14 +90,14 @@ module _ {D : Type 0} (base : State) (t : Tick) (f g : Progress D) (commands : L
     pub store : g.store ≡ f.store
     pub each : answers ≡ sent_to_all t g.published decision.NoMemory commands
 
-  -- the disk had failed in an earlier round: nothing is changed, and each command is answered so
+  -- the disk had failed in an earlier round: nothing is changed, and each command is answered with the fault `Broken`
   pub record AreBroken : Type 0 where
     pub durable : g.durable ≡ f.durable
     pub published : g.published ≡ f.published
     pub store : g.store ≡ f.store
     pub each : answers ≡ sent_to_all t g.published (decision.Fault Broken) commands
 
-  -- which of these it is, by whether the disk had failed before
+  -- what became of the commands: `AreBroken` if the disk had failed before, else one of the three others
   abbrev pub AreServedBy : Bool → Type 0
   AreServedBy true = AreBroken
   AreServedBy false = AreCommitted ⊎ (AreRefused ⊎ HasNotCaughtUp)
@@ -106,7 +106,8 @@ module _ {D : Type 0} (base : State) (t : Tick) (f g : Progress D) (commands : L
   abbrev pub AreServed : Type 0
   AreServed = AreServedBy f.store.broken
 
--- Each command got one answer, in turn, at moment t. The same happens in the core by a run of its events, and each answer has its reason.
+-- Each command got one answer, in turn, at moment t. The core comes from the one stage to the other by a run of the flusher's
+-- events, with the replies among these answers (`HasRun`). Each answer has its reason (`AreServed`).
 pub record HasServed {D : Type 0} (base : State) (t : Tick) (f g : Progress D) (commands : List (Asked Global)) (old new : List (AnswerSender Sent)) : Type 0 where
   pub answers : List Sent
   pub asked : commands_of answers ≡ commands

@@ -1,5 +1,5 @@
 -- What a session is modelled as.
-use Rattle.std.specs.Prelude.{◌≡◌, length}
+use Rattle.std.specs.Prelude.{◌≡◌, false, length}
 use mathlib.Core.List.{IsPrefix}
 use Rattle.crossbeam_channel.specs.Ends.{receives_on}
 use Rattle.answers.specs.Views.{received_of}
@@ -11,16 +11,19 @@ module _ {J : Type 0} where
   abbrev pub view_of : Session J → SessionView
   view_of s = record { sent = s.sender.sent; received = received_of s.receiver.pass; seen = s.viewer; reached = length s.viewer }
 
-  -- it is of the same station, on the same queue and channel, and has the same share of the queue's places
+  -- new has the station, queue and channel of old, and its share of the queue's places
   pub record IsSameSession (old new : Session J) : Type 0 where
     pub queue : new.sender.queue ≡ old.sender.queue
     pub station : new.sender.station ≡ old.sender.station
     pub channel : receives_on new.receiver.channel ≡ receives_on old.receiver.channel
     pub share : new.share ≡ old.share
+    -- a flusher that was found gone stays so
+    pub gone : new.listening ≡ false → old.listening ≡ false
 
-  -- nothing is sent or received, what was seen stays seen, and its share stays
+  -- nothing is sent or received, what was seen stays seen, and its share stays; the flusher is found gone if it was before
   pub record HasOnlyRead (old new : Session J) : Type 0 where
     pub sender : new.sender ≡ old.sender
     pub receiver : new.receiver ≡ old.receiver
     pub seen : IsPrefix old.viewer new.viewer
     pub share : new.share ≡ old.share
+    pub listening : new.listening ≡ old.listening

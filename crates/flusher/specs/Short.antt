@@ -8,7 +8,7 @@ use Rattle.recovery.specs.declared.outcome.Outcome.TheVariants as outcome
 use Rattle.flusher.specs.declared.decision.Decision.{Decision}
 use Rattle.flusher.specs.declared.decision.Decision.TheVariants as decision
 
--- the PDU of its reply, if it has one, has at most 2,048 bits
+-- the PDU of the outcome's reply, if it has one, has at most 2,048 bits
 abbrev pub HasShortOutcome : Outcome Global → Type 0
 HasShortOutcome (outcome.Replied r) = HasShortPdu r
 HasShortOutcome outcome.NoMemory = Unit {0}

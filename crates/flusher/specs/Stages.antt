@@ -39,8 +39,9 @@ sent t c published d = record { moment = t; command = c; published = published; 
 abbrev pub IsKeptOf : State → List (Asked Global) → Asked Global → ℕ → Option (List Bool) → Type 0
 IsKeptOf base l c n p = IsLeftBy base l c.station (last_of c n p) ⊎ (last_at base c.station ≡ Some (last_of c n p))
 
--- The published list bears out a reply. Accepted: the command is there at its number, with this reply. Kept: the list or the base keeps
--- it, if the list is as long. Refused: the step refuses it after some list of commands that are accepted in turn.
+-- The published list bears out a reply. Accepted: the command is in it at its number, with this reply. Kept: if the list
+-- reaches this number, the list or the base keeps number and reply for the command's station and sequence. Refused: the step
+-- refuses the command after some list of commands that are accepted in turn.
 abbrev pub BearsOut : State → List (Asked Global) → Asked Global → Reply Global → Type 0
 BearsOut base published c (Accepted n p) = Lands base published c n p
 BearsOut base published c (Kept n p) = n ≤ base.count + length published → IsKeptOf base published c n p
@@ -79,7 +80,7 @@ abbrev pub commands_of : List Sent → List (Asked Global)
 commands_of [] = []
 commands_of (x ∷ xs) = x.command ∷ commands_of xs
 
--- out of memory, or this fault
+-- the decision on each of many commands: this fault, or out of memory for `None`
 abbrev pub decision_for_all : Option StoreFault → Decision
 decision_for_all None = decision.NoMemory
 decision_for_all (Some fault) = decision.Fault fault
@@ -142,7 +143,7 @@ is_own (Read s) = false
 is_own Reopen = false
 is_own other = true
 
--- so is each of these
+-- each of these events is one of the flusher (`is_own`)
 abbrev pub AreOwn : List (Event Global) → Type 0
 AreOwn events = AllByRecursion (λ (e : Event Global). is_own e ≡ true) events
 

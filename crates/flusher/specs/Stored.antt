@@ -26,7 +26,7 @@ pub record AreUnderWay {D : Type 0} (base : State) (f : FlusherView D) (more : L
   pub reached : ℕ
   pub part : IsPart batch (commands_among f.taker.taken)
   pub these : more ≡ taken (after base f.durable) (take reached batch)
-  -- they were taken after all that is durable
+  -- the durable commands and then these are some of those that were taken, in the order in which they were taken
   pub order : AreInOrder (f.durable ++ more) f.taker.taken
 
 -- Each image that a stop may leave opens to what is durable. If the disk has failed, each opens to that, or to that and further commands

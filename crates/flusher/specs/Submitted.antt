@@ -68,7 +68,7 @@ abbrev pub IsPut : Asked Global → List Entry → List Entry → Type 0
 IsPut c old new = (request : Request) × (arc_value request.command ≡ c) × (new ≡ old ++ Submitted request ∷ [])
 
 module _ {J : Type 0} where
-  -- the answer to a decision
+  -- the session's answer for a decision, with the list that was published then
   abbrev pub answer_by : List (Asked Global) → Decision → Answer J
   answer_by published (decision.Replied (Accepted n p)) = answer.Accepted n p published
   answer_by published (decision.Replied (Kept n p)) = answer.Kept n p
@@ -102,7 +102,7 @@ module _ {J : Type 0} where
   abbrev pub HasReached : State → ℕ → ℕ → List (Asked Global) → Answer J → Type 0
   HasReached base old new now a = (old ≤ new) × (new ≤ length now) × IsWithin base new a
 
-  -- what was received is for this command and is the answer, and its list is seen now; or it does not fit, and the session is closed
+  -- what was received is for this command and is the answer, and its list is seen now; or it does not fit, and the answer is `Closed`
   abbrev pub Fits : State → Asked Global → List (Asked Global) → ℕ → Sent → List (Asked Global) → Answer J → Type 0
   Fits base c seen reached x now a =
       ((x.command ≡ c) × (a ≡ answer_by x.published x.decision) × (now ≡ x.published)) ⊎ (IsMisfit base c seen reached x × (a ≡ answer.Closed) × (now ≡ seen))
@@ -111,7 +111,7 @@ module _ {J : Type 0} where
   abbrev pub IsAnswered : State → Asked Global → SessionView → SessionView → Answer J → Type 0
   IsAnswered base c old new a = (x : Sent) × (new.received ≡ old.received ++ x ∷ []) × Fits base c old.seen old.reached x new.seen a
 
-  -- none was received, and the answer is that the flusher is gone
+  -- no answer was received, and the command is answered as `Closed`: the flusher is gone
   abbrev pub IsUnanswered : SessionView → SessionView → Answer J → Type 0
   IsUnanswered old new a = (new.received ≡ old.received) × (new.seen ≡ old.seen) × (a ≡ answer.Closed)
 

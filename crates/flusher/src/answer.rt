@@ -26,6 +26,6 @@ pub enum Answer<J: Centre> {
     NoMemory,
     /// The device failed, now or earlier, or the last epoch is used up.
     Fault(StoreFault),
-    /// The flusher is gone, or what was received does not fit the command.
+    /// No answer was received, as once the flusher is gone, or what was received does not fit the command.
     Closed,
 }

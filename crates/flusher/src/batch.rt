@@ -119,8 +119,8 @@ impl Room {
     }
 }
 
-// Takes entries until there are 64 or the queue is empty, and notes the stations that ended. It returns how many stations have sent all that
-// they send before they are answered.
+// Takes entries until there are 64 or the queue is empty (if it takes none, perhaps in an earlier round), and notes the stations that
+// ended. It returns how many stations have sent all that they send before they are answered.
 fn take_entries<R: Wait>(rt: &R, taker: &mut Taker, room: &mut Room, ended: &mut Vec<bool>) -> usize
     requires empty { room.old.batch.items ≡ [] }
     requires flags { taker.old.made ≡ length ended.old.items }
@@ -141,8 +141,8 @@ fn take_entries<R: Wait>(rt: &R, taker: &mut Taker, room: &mut Room, ended: &mut
     done
 }
 
-/// Takes entries until there are 64 or the queue is empty. It keeps the commands among them, and notes the stations that
-/// ended.
+/// Takes entries until there are 64 or the queue is empty (if it takes none, perhaps in an earlier round). It keeps the commands
+/// among them, and notes the stations that ended.
 pub(crate) fn take_batch<R: Wait>(rt: &R, taker: &mut Taker, room: &mut Room, ended: &mut Vec<bool>)
     requires empty { room.old.batch.items ≡ [] }
     requires flags { taker.old.made ≡ length ended.old.items }

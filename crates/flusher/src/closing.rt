@@ -127,8 +127,8 @@ pub fn close<J: Centre, D: Disk, R: Wait>(
 }
 
 impl<J: Centre, D: Disk> Flusher<J, D> {
-    /// Returns the store without closing the centre. Entries that are still in the queue are lost, and each session that
-    /// waits for an answer gets `Closed`.
+    /// Returns the store without closing the centre. Entries that are still in the queue are lost, with their places: a session
+    /// that has none left waits for ever, also in `finish`. That one that waits for its answer gets `Closed` is in no clause.
     pub fn abandon<R: Wait>(self, rt: &R) -> Store<Global, D>
         ensures { store_view result ≡ (view_of self).store }
     {

@@ -27,7 +27,7 @@ pub struct Attempts {
 }
 
 impl Attempts {
-    /// None was tried.
+    /// No commit was tried yet.
     pub(crate) fn none() -> Attempts
         ensures { result ≡ none_tried }
     {
@@ -37,7 +37,7 @@ impl Attempts {
         }
     }
 
-    /// After one more. `refused`: it was out of memory.
+    /// The attempts after one more commit. `refused`: that one was out of memory.
     pub(crate) fn after(&self, refused: bool) -> Attempts
         ensures counted { IsNext self.now.count result.count }
         ensures exact { result.refused ≡ refused }

@@ -14,7 +14,7 @@ use snapshots::Centre;
 use station_queue::Taker;
 use std::sync::Wait;
 
-/// What is called in each round, before the round commits.
+/// What is called in each round, before the round commits. No clause says that it is called, nor with what.
 pub trait Gate {
     /// The round of this number, counted from 1, has taken `taken` commands, and commits them now.
     fn before_commit(&self, round: u64, taken: usize);
@@ -62,8 +62,8 @@ impl<J: Centre, D: Disk> Flusher<J, D> {
     ghost use Rattle.flusher.specs.Stored.{IsStoredFor};
     ghost use Rattle.flusher.specs.View.{view_of};
 
-    /// One round: publishes what an earlier round left, takes commands, commits them, publishes those that are accepted,
-    /// and answers each.
+    /// One round. Unless the disk has failed, it publishes what an earlier round left. It takes commands. If the disk has not
+    /// failed, and all that is durable is published, it commits them and publishes those that are accepted. It answers each.
     pub fn round<R: Wait, T: Gate>(&mut self, rt: &R, gate: &T)
         requires settled { IsSettled J.base (view_of self.old) }
         ensures settled { IsSettled J.base (view_of self.new) }

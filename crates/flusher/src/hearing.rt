@@ -64,7 +64,7 @@ pub(crate) fn hear_all<J: Centre, R: Wait>(
     }
 }
 
-/// Adds so many answers that memory ran out.
+/// Adds so many answers `NoMemory`.
 pub(crate) fn refuse_all<J: Centre>(answers: &mut Vec<Answer<J>>, count: usize)
     requires room { vec_len answers.old + count ≤ vec_capacity answers.old }
     requires short { All HasShortAnswer answers.old.items }
@@ -114,7 +114,7 @@ fn take_in<J: Centre>(
     answer_by(published, decision)
 }
 
-// Whether it accepts a command under a number that was reached.
+// Whether the decision accepts a command under a number that was reached.
 fn is_already_reached(decision: &Decision, base: u64, reached: u64) -> bool
     ensures { IsTrue result ↔ IsAlreadyReached base reached decision.now }
 {
@@ -126,7 +126,7 @@ fn is_already_reached(decision: &Decision, base: u64, reached: u64) -> bool
     }
 }
 
-// How many commands are reached then.
+// How many commands are reached once this was decided.
 fn reached_by(decision: &Decision, base: u64, reached: u64) -> u64
     ensures { result ≡ reached_by base reached decision.now }
 {

@@ -31,7 +31,7 @@ impl<J: Centre> Listening<J> {
     ghost use Rattle.crossbeam_channel.specs.Ends.{receives_on};
     ghost use Rattle.flusher.specs.Inside.Hearing.{HasReceivedOne};
 
-    // In a centre that was opened with so many commands.
+    // Listens in a centre whose register had accepted so many commands when it was opened. The flusher is not found gone yet.
     pub(crate) fn new(base: u64) -> Listening<J>
         requires { base ≡ J.base.count }
         ensures { result ≡ false }

@@ -211,7 +211,7 @@ pub fn open_centre<J: Centre, D: Disk, R: Wait>(
     ensures untried { IfOk result (λ r. (view_of r.0).attempts ≡ tries none_tried 0) }
     ensures sessions { IfOk result (λ r. AreNewSessions (view_of r.0).taker.queue (view_of r.0).senders r.1.items) }
 
-    // Each has the same share of the queue's places.
+    // All sessions have equal shares of the queue's places.
     ensures shares { IfOk result (λ r. All (λ s. s.share ≡ share_of sessions) r.1.items) }
 
     // Which fault comes, and that the store comes back as it was.

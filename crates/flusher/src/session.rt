@@ -54,7 +54,7 @@ impl<J: Centre> Session<J> {
     ghost use Rattle.station_queue.specs.declared.entry.Entry.TheVariants as entry;
     ghost use Rattle.flusher.specs.Closed.{HasFinished};
     ghost use Rattle.flusher.specs.Heard.{ArePutFirst};
-    ghost use Rattle.flusher.specs.Submitted.{AreSubmissions, HasShortAnswer, IsSubmission};
+    ghost use Rattle.flusher.specs.Submitted.{AreSubmissions, HasShortAnswer, IsSubmission, IsUnanswered};
     ghost use Rattle.flusher.specs.Sessions.{HasOnlyRead, IsSameSession, view_of};
 
     /// Its station.
@@ -74,8 +74,9 @@ impl<J: Centre> Session<J> {
     }
 
     /// Submits a command of its station, and waits for the answer. It returns `NoMemory` also if memory runs out before the
-    /// command is put into the queue. It returns `Closed` only if the flusher is gone, or if what was received does not fit:
-    /// it is for another command, lacks commands that the session has seen, or accepts under a number that was seen.
+    /// command is put into the queue. It returns `Closed` only if the flusher was found gone, or if what was received does not
+    /// fit: it is for another command, lacks commands that the session has seen, or accepts under a number that was seen. Once
+    /// the flusher is gone it may wait for ever, if all its places are taken.
     pub fn submit<R: Wait>(&mut self, rt: &R, command: Command<Global>) -> Answer<J>
         requires station { command.station ≡ self.old.sender.station }
 
@@ -85,6 +86,9 @@ impl<J: Centre> Session<J> {
 
         // The PDU that it gives has at most 2,048 bits.
         ensures short { HasShortAnswer result }
+
+        // If it was put into the queue and no answer was received, the flusher was found gone.
+        ensures gone { IsUnanswered (view_of self.old) (view_of self.new) result → self.new.listening ≡ true }
 
         // It stays the session of its station, with its share.
         ensures same { IsSameSession self.old self.new }
@@ -105,8 +109,8 @@ impl<J: Centre> Session<J> {
     }
 
     /// Submits commands of its station, at most its share, and then waits for the answer to each, in order. So one commit can take
-    /// them all. Each is answered as by [`Session::submit`]. Once memory has run out for one, that one and all after it are answered
-    /// so, and not put into the queue. `answers` gets the answers alone, and no more memory.
+    /// them all. Each is answered as by [`Session::submit`]. Once memory has run out for one, that one and all after it are
+    /// answered `NoMemory`, and not put into the queue. `answers` gets the answers alone, and no more memory.
     pub fn submit_all<R: Wait>(
         &mut self,
         rt: &R,
@@ -141,8 +145,8 @@ impl<J: Centre> Session<J> {
     }
 
     /// The answer to a query after a list of commands, kept under `alloc`, with the length of that list. Each of them was
-    /// accepted in its turn, and the list begins with all that the session has seen. It never waits. `NoMemory` comes only where the answer is a list; the session
-    /// may then have seen more. After `Closed` it has seen no more than before.
+    /// accepted in its turn, and the list begins with all that the session has seen. It never waits. `NoMemory` comes only
+    /// where the answer is a list; the session may then have seen more. After `Closed` it has seen no more than before.
     pub fn read<C: Allocator + Copy>(
         &mut self,
         alloc: C,
@@ -160,8 +164,8 @@ impl<J: Centre> Session<J> {
     }
 
     /// Adds the text of a listing after a list of commands to `out`. Each of them was accepted in its turn, and the list begins
-    /// with all that the session has seen. It never waits. If it fails, `out` is unchanged. `NoMemory` comes only where the text has no room; the session may then have
-    /// seen more. After `Closed` it has seen no more than before.
+    /// with all that the session has seen. It never waits. If it fails, `out` is unchanged. `NoMemory` comes only where the
+    /// text has no room; the session may then have seen more. After `Closed` it has seen no more than before.
     pub fn list<C: Allocator + Copy>(
         &mut self,
         listing: &Listing,

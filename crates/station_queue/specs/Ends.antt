@@ -15,7 +15,7 @@ pub record Sending : Type 0 where
 abbrev pub sending : TableId → Station → List Entry → Sending
 sending queue station sent = record { queue = queue; station = station; sent = sent }
 
--- the taker: its queue, how many senders it made, what it took, the senders that came back, and whether its last `take` found the queue empty
+-- the taker: its queue, how many senders it made, what it took, the senders that came back, and the flag that `take` sets if it returns nothing
 pub record Taking : Type 0 where
   pub queue : TableId
   pub made : ℕ

@@ -148,7 +148,7 @@ pub(crate) fn open_returns(
 impl Return {
     ghost use Rattle.std.specs.Prelude.{◌≡◌, [], ◌∷◌, IfSome};
 
-    /// Puts a place in. There is room for all places of a station.
+    /// Puts a place in. There is room for all places of a station, which no clause says: a place for which there is none is dropped.
     pub(crate) fn give(&mut self, place: Place)
         requires { place ∷ [] ≡ self.old }
         ensures { self.new ≡ self.old }

@@ -22,8 +22,8 @@ pub fn share_of(stations: usize) -> usize
     PLACES / stations
 }
 
-/// An empty queue: its taker, and a sender for each station from 1 to `count`, that of station 1 first. Each sender has the same
-/// share of the queue's places. An entry has one of them until it is taken.
+/// An empty queue: its taker, and a sender for each station from 1 to `count`, that of station 1 first. Each sender is given the
+/// same share of the queue's places (no clause says so). An entry has one of them until it is taken.
 pub fn open_queue(alloc: Global, count: u16) -> Result<(Taker, Vec<Sender>), AllocError>
     requires { (1 ≤ count) × (count ≤ 64) }
     ensures taker { IfOk result (λ r. r.0 ≡ taking r.0.queue count [] [] r.0.empty) }

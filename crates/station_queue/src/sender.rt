@@ -46,7 +46,7 @@ impl Sender {
     }
 
     /// Sends an entry of its station. The queue always has room for it. It waits only while entries of its own station have all
-    /// the station's places there.
+    /// the station's places there; no clause says so.
     pub fn send<R: Wait>(&mut self, rt: &R, entry: Entry)
         requires { station_of entry ≡ self.old.station }
         ensures sent { self.new.sent ≡ self.old.sent ++ entry ∷ [] }

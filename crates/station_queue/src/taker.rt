@@ -26,7 +26,7 @@ pub struct Taker {
 }
 
 impl Model for Taker {
-    ghost use Rattle.std.specs.Prelude.{◌≡◌, ◌≤◌, [], ◌∷◌, true, All, length};
+    ghost use Rattle.std.specs.Prelude.{◌≡◌, [], ◌∷◌, true, All, length};
     ghost use Rattle.std.specs.Arc.{arc_value};
     ghost use Rattle.crossbeam_queue.specs.Passes.{view as known, IsPassOf, ruled_capacity};
     ghost use Rattle.station_queue.specs.Ends.{Taking, taking};
@@ -36,7 +36,7 @@ impl Model for Taker {
     ghost view = { λ t. taking t.pass.table_id (known t.pass).made (known t.pass).taken (known t.pass).settled t.empty };
 
     ghost invariant = { λ t. IsPassOf (arc_value t.queue) t.pass × ((known t.pass).takes ≡ true) × (ruled_capacity (arc_value t.queue) ≡ 64)
-        × ((known t.pass).made ≡ length t.returns.items) × All (λ r. r ≡ t.pass.table_id ∷ []) t.returns.items × (t.left ≤ (known t.pass).places) };
+        × ((known t.pass).made ≡ length t.returns.items) × All (λ r. r ≡ t.pass.table_id ∷ []) t.returns.items × (t.left ≡ (known t.pass).places) };
 }
 
 impl Taker {
@@ -73,7 +73,8 @@ impl Taker {
         })
     }
 
-    /// Takes the oldest entry, and gives its place back to its station. `None` only where the queue was empty at one moment of the call.
+    /// Takes the oldest entry, and gives its place away: to its station, which no clause says. `None` only where it found the queue
+    /// empty; of that the clauses say only that this call sets the flag `empty`.
     pub fn take<R: Wait>(&mut self, rt: &R) -> Option<Entry>
         ensures same { (self.new.queue ≡ self.old.queue) × (self.new.made ≡ self.old.made) × (self.new.settled ≡ self.old.settled) }
         ensures taken { MatchOption result ((self.new.taken ≡ self.old.taken) × (self.new.empty ≡ true))
@@ -140,11 +141,11 @@ fn give_one(queue: &Queue, pass: &mut QueuePass, returns: &mut Return)
 fn fill(queue: &Queue, pass: &mut QueuePass, left: &mut usize, returns: &mut Return, places: usize)
     requires pass { IsPassOf queue.now pass.old }
     requires takes { (known pass.old).takes ≡ true }
-    requires left { left.old ≤ (known pass.old).places }
+    requires left { left.old ≡ (known pass.old).places }
     requires returns { returns.old ≡ pass.old.table_id ∷ [] }
     ensures pass { IsPassOf queue.now pass.new × (pass.new.table_id ≡ pass.old.table_id) }
     ensures view { IsSameTaker (known pass.old) (known pass.new) }
-    ensures left { left.new ≤ (known pass.new).places }
+    ensures left { left.new ≡ (known pass.new).places }
     ensures returns { returns.new ≡ returns.old }
 {
     for _ in 0..places {

@@ -46,7 +46,7 @@ module _ {J : Type 0} where
     pub short : AreShort outcomes
     pub kept : commands_in p.unpublished.items ≡ accepted_by commands outcomes
 
-  -- they were published and answered
+  -- these commands, which were committed, were published, or that ran out of memory, and each was answered (`HavePublished`)
   abbrev pub HavePublishedFrom : Publication J → Publication J → List (Asked Global) → Committed → List (AnswerSender Sent)
       → List (AnswerSender Sent) → Type 0
   HavePublishedFrom p q commands committed old new =

@@ -50,7 +50,8 @@ returns-in-Ok-clause-served g c seen =
     let log = old.publisher.appended ++ commands_in old.unpublished.items in
     let cmds = commands_in c.args.room.now.batch.items in
     let os = c.in-Ok.outcomes.items in
-    let same : c.keep.new.self.publisher.appended ≡ log = ap (λ p. p.appended) c.keep.ensures.publisher ∙ sym (all_appended old.publisher.appended old.unpublished.items c.requires.ready.caught_up.1) in
+    let same : c.keep.new.self.publisher.appended ≡ log = ap (λ p. p.appended) c.keep.ensures.publisher ∙ sym
+    (all_appended old.publisher.appended old.unpublished.items c.requires.ready.caught_up.1) in
     let is : new.publisher.appended ++ commands_in new.unpublished.items ≡ log ++ accepted_by cmds os = c.publish_and_answer.ensures.durable ∙
     (λ j. same j ++ (c.keep.ensures.kept ∙ (λ j. accepted_by (c.args.room.now.same j) (c.as_slice.ensures.value j))) j) in
     let small = subst (λ n. n ≤ 64) (sym (length-commands_in c.args.room.now.batch.items)) c.args.room.now.few in
@@ -77,7 +78,8 @@ returns-in-Ok-clause-durable g c =
     let history = c.requires.ready.history in
     let made = c.requires.ready.made in
     let done = c.in-Ok.ensures.committed.0 in
-    let same : c.keep.new.self.publisher.appended ≡ log = ap (λ p. p.appended) c.keep.ensures.publisher ∙ sym (all_appended old.publisher.appended old.unpublished.items c.requires.ready.caught_up.1) in
+    let same : c.keep.new.self.publisher.appended ≡ log = ap (λ p. p.appended) c.keep.ensures.publisher ∙ sym
+    (all_appended old.publisher.appended old.unpublished.items c.requires.ready.caught_up.1) in
     let is : new.publisher.appended ++ commands_in new.unpublished.items ≡ log ++ accepted_by cmds os = c.publish_and_answer.ensures.durable ∙
     (λ j. same j ++ (c.keep.ensures.kept ∙ (λ j. accepted_by (c.args.room.now.same j) (c.as_slice.ensures.value j))) j) in
     record {

@@ -42,7 +42,8 @@ answer_all-requires-clause-borne_out g c =
 pub answer_all-requires-clause-each : goal.answer_all-requires-clause-each
 answer_all-requires-clause-each g c =
     let base = g.J.Centre.base in
-    let h = comes base _ _ c.args.publication.now.publisher.appended (commands_in c.args.batch.now.items) c.args.committed.outcomes.items c.requires.committed.history refl c.requires.committed.answered in
+    let h = comes base _ _ c.args.publication.now.publisher.appended (commands_in c.args.batch.now.items) c.args.committed.outcomes.items
+    c.requires.committed.history refl c.requires.committed.answered in
     h.each ∙ length-commands_in c.args.batch.now.items
 
 pub returns-clause-published : goal.returns-clause-published

@@ -10,10 +10,10 @@ loop-preserved c =
     let e = c.give_one.ensures in
     let one = same_taker (known c.loop.pass) (known c.give_one.new.pass) ((known c.loop.pass).places - 1) e.view in
     let places = ap (λ (v : View). v.places) e.view in
-    let few = i.3 in (
+    let same = i.3 in (
       e.pass.0,
       e.pass.1 ∙ i.1,
       (one.0, one.1 ∙ i.2.1, one.2 ∙ i.2.2, one.3 ∙ i.2.3),
-      omega (arith, places, few),
+      omega (arith, places, same),
       e.returns ∙ i.4,
     )

@@ -2,4 +2,4 @@ use Rattle.std.proofs.Common.{refl}
 use Rattle.flusher.proofs.session.Session.read.Goals as goal
 
 pub returns-clause-reads : goal.returns-clause-reads
-returns-clause-reads g c = record { sender = refl; receiver = refl; seen = c.read.ensures.later; share = refl }
+returns-clause-reads g c = record { sender = refl; receiver = refl; seen = c.read.ensures.later; share = refl; listening = refl }

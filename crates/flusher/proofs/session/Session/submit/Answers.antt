@@ -5,6 +5,7 @@ use Rattle.answers.specs.Views.{received_of}
 use Rattle.station_queue.specs.declared.entry.Entry.TheVariants.{Submitted}
 use Rattle.flusher.specs.Heard.{IsHeard, heard}
 use Rattle.flusher.specs.Submitted.{are_submitted}
+use Rattle.flusher.proofs.Found.{none_came}
 use Rattle.flusher.proofs.Submitting.{one_more_submitted}
 use Rattle.flusher.proofs.Together.{submission, whole_heard}
 use Rattle.flusher.proofs.session.Session.submit.Goals as goal
@@ -32,4 +33,8 @@ returns-clause-submitted g c =
     (c.in-Some.request, c.in-Some.ensures.0, c.send.ensures.sent) (whole_heard base c.args.command h k c.hear.result is)
 
 pub returns-clause-same : goal.returns-clause-same
-returns-clause-same g c = record { queue = c.send.ensures.same.0; station = c.send.ensures.same.1; channel = c.hear.ensures.same; share = refl }
+returns-clause-same g c = record { queue = c.send.ensures.same.0; station = c.send.ensures.same.1; channel = c.hear.ensures.same; share = refl; gone = c.hear.ensures.all.found }
+
+pub returns-clause-gone : goal.returns-clause-gone
+returns-clause-gone g c = λ h.
+    none_came c.args.self.now.listening c.hear.new.listening (received_of c.args.self.now.receiver.pass) (received_of c.hear.new.receiver.pass) c.hear.ensures.all h.0

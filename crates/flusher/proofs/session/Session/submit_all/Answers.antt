@@ -71,4 +71,5 @@ returns-clause-same g c = record {
   station = c.put_all-put.ensures.same.1;
   channel = c.hear_all.ensures.same;
   share = refl;
+  gone = c.hear_all.ensures.all.found;
 }
