@@ -10,15 +10,15 @@ use Rattle.recovery.specs.Lives.{StoreView}
 use Rattle.recovery.specs.Stored.{fresh_place}
 use Rattle.recovery.specs.UnderWay.{MayBegin, ends_with}
 
--- a checkpoint that is under way, with its journal after the same record
+-- the checkpoint that is under way, if there is one, with its journal after a record of these commands
 abbrev pub ongoing_after : {A : Type 0} → Option (Ongoing A) → List (Asked A) → Option (Ongoing A)
 ongoing_after {A} ongoing cs = option_map {T = Ongoing A} (λ it. record it { journal = following it.journal cs }) ongoing
 
--- a store after a record of these commands
+-- a store after a record of these commands, in its journal and in that of a checkpoint under way
 abbrev pub with_record : {A D : Type 0} → StoreView A D → List (Asked A) → StoreView A D
 with_record store cs = record store { journal = following store.journal cs; ongoing = ongoing_after store.ongoing cs }
 
--- a store after a checkpoint that made room, or as it was if the record fits
+-- a store as it was if the record fits (`true`), else after a checkpoint that made room
 abbrev pub with_room : {A D : Type 0} → Bool → StoreView A D → StoreView A D
 with_room true store = store
 with_room false store = record store {
@@ -28,38 +28,38 @@ with_room false store = record store {
   ongoing = None;
 }
 
--- the next rows of a checkpoint that is under way are written
+-- the next rows of a checkpoint that is under way are written; its register and its journal stay
 pub record HasWrittenRows {A : Type 0} (epoch : Epoch) (was is : Ongoing A) : Type 0 where
   pub register : is.register ≡ was.register
   pub written : is.progress.written ≡ written_after (epoch + 1) was.register was.progress.written
   pub journal : is.journal ≡ was.journal
 
 module _ {A D : Type 0} (old new : StoreView A D) where
-  -- the same side counts, with the same journal
+  -- new has the side that counts, its epoch and its journal from old
   pub record Stays : Type 0 where
     pub side : new.side ≡ old.side
     pub epoch : new.epoch ≡ old.epoch
     pub journal : new.journal ≡ old.journal
 
-  -- a checkpoint has begun: of the register as it is now, with no row written and no record
+  -- this checkpoint has begun, as it may: of the register as it is in new, with no row written and no record
   pub record HasBegun (it : Ongoing A) : Type 0 where
     pub register : it.register ≡ new.register
     pub written : it.progress.written ≡ 0
     pub journal : it.journal ≡ fresh_place old.layout (other_of old.side) new.register.count
     pub may : MayBegin old.layout old.epoch old.journal
 
-  -- the checkpoint's side counts, with the checkpoint's journal
+  -- the side of this checkpoint counts, with the next epoch and the checkpoint's journal; no checkpoint is under way
   pub record HasEnded (was : Ongoing A) : Type 0 where
     pub side : new.side ≡ other_of old.side
     pub epoch : new.epoch ≡ old.epoch + 1
     pub journal : new.journal ≡ was.journal
     pub none : new.ongoing ≡ None
 
-  -- the checkpoint has its next rows
+  -- this checkpoint is still under way in new, and its next rows are written
   abbrev pub HasNextRows : Ongoing A → Type 0
   HasNextRows was = (is : Ongoing A) × (new.ongoing ≡ Some is) × HasWrittenRows old.epoch was is
 
-  -- the next rows are written, and if they end the image the other side counts
+  -- the next rows of this checkpoint are written; if they end the image (`true`), the checkpoint's side counts
   abbrev pub GoesBy : Ongoing A → Bool → Type 0
   GoesBy was false = Stays × HasNextRows was
   GoesBy was true = HasEnded was
@@ -69,7 +69,8 @@ module _ {A D : Type 0} (old new : StoreView A D) where
   GoesOn None = Stays × IfSome new.ongoing HasBegun
   GoesOn (Some was) = GoesBy was (ends_with (old.epoch + 1) was.register was.progress.written)
 
--- a checkpoint has made room, or the record fits
+-- new has the side that counts, its epoch, its journal and the checkpoint under way from old if the record fits (`true`), else
+-- as a checkpoint that made room left them
 abbrev pub HasRoom : {A D : Type 0} → StoreView A D → StoreView A D → Bool → Type 0
 HasRoom old new fits = Stays (with_room fits old) new × (new.ongoing ≡ (with_room fits old).ongoing)
 

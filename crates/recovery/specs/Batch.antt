@@ -10,7 +10,7 @@ use Rattle.recovery.specs.Calls.{LacksRoom}
 use Rattle.recovery.specs.Lives.{IsAnsweredOnHonest, IsUnansweredOnHonest, StaysKept, StopsLeave, StoreView, WhereKept}
 use Rattle.recovery.specs.OpensTo.{OpensTo}
 use Rattle.recovery.specs.Outcomes.{IsAfterBatch, IsAnswered, OpensToEither, asked}
-use Rattle.recovery.specs.Refusals.{IsErrEither, IsOfCommit}
+use Rattle.recovery.specs.Refusals.{IsOfCommit}
 use Rattle.recovery.specs.declared.fault.StoreFault.{StoreFault}
 use Rattle.recovery.specs.declared.fault.StoreFault.TheVariants.{Broken, DiskFault, NoMemory, Unready}
 use Rattle.recovery.specs.declared.outcome.Outcome.{Outcome}
@@ -38,12 +38,12 @@ pub record AnswersBatch {A B C D : Type 0} {g : Ghosts D} (old new : Store A D g
   pub idle : taken old.register (asked commands) ≡ [] → new.disk ≡ old.disk
 
 -- When it is refused, and what then stays: all, but after a fault of the disk. Then the store shows the register before the call.
--- `Unready` comes exactly where a record of all commands would not fit, if there is memory.
+-- `Unready` comes exactly where a record of all commands would not fit.
 pub record RefusesBatch {A B D T : Type 0} {g : Ghosts D} (old new : Store A D g) (commands : List (Bor (Asked B)))
     (result : Result T StoreFault) : Type 0 where
   pub broken : old.broken ≡ true → result ≡ Err Broken
   pub only_broken : IsErrOf result Broken → (old.broken ≡ true) × (new ≡ old)
-  pub unready : old.broken ≡ false → 1 ≤ length commands → LacksRoom A old.journal commands → IsErrEither result Unready NoMemory
+  pub unready : old.broken ≡ false → 1 ≤ length commands → LacksRoom A old.journal commands → result ≡ Err Unready
   pub only_unready : IsErrOf result Unready → (old.broken ≡ false) × LacksRoom A old.journal commands × (new ≡ old)
   pub memory : IsErrOf result NoMemory → new ≡ old
   pub fault : IsErrOf result DiskFault → (new.broken ≡ true) × (new.before.value ≡ old.register)

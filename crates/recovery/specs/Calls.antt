@@ -43,13 +43,13 @@ side_calls layout =
     ∷ Sync
     ∷ []
 
--- then the label
+-- the sides are written and synced as by `side_calls`, then the label is written and synced
 abbrev pub format_calls : Layout → List Call
 format_calls layout = side_calls layout ++ Write label_at (label_sector layout) ∷ Sync ∷ []
 
 -- ---- a register that is kept
 
--- may a record of all these commands go to the next gate?
+-- does a record of all these commands fit at the next gate?
 abbrev pub fits_in : {B : Type 0} (A : Type 0) → Place → List (Bor (Asked B)) → Bool
 fits_in A place commands = nat_le (data_size (text_at A place commands)) (room_of place)
 
@@ -70,14 +70,14 @@ record_calls place (Some it) (c ∷ cs) =
 abbrev pub both_calls : {B : Type 0} (A : Type 0) → Place → Place → List (Bor (Asked B)) → List Call
 both_calls A x y commands = append_both_calls x.next (text_at A x commands) y.next (text_at A y commands)
 
--- after the last row of the image its side, the other one, is made to count
+-- after a checkpoint's last row (`true`) its rows are synced, and the other side's root is opened and synced; else nothing
 abbrev pub end_calls : Side → Bool → List Call
 end_calls side true = Sync ∷ switch_calls (other_of side)
 end_calls side false = []
 
 module _ (layout : Layout) (side : Side) where
   module _ (epoch : Epoch) where
-    -- the next rows of a checkpoint that is under way are written
+    -- the next rows of a checkpoint that is under way are written to the other side
     abbrev pub rows_calls : {A : Type 0} → Ongoing A → List Call
     rows_calls it = next_calls layout (other_of side) (epoch + 1, it.register) it.progress.written
 
@@ -88,7 +88,7 @@ module _ (layout : Layout) (side : Side) where
     ongoing_calls None true was_open = close_calls_by layout (other_of side) was_open
     ongoing_calls None false was_open = []
 
-    -- those of a commit that keeps these commands, if a record of them fits; without commands there are none
+    -- the calls of a commit that keeps these commands, if a record of them fits; without commands there are none
     abbrev pub commit_calls_by : {A : Type 0} → Place → Option (Ongoing A) → List (Asked A) → Bool → Bool → List Call
     commit_calls_by place ongoing [] begins was_open = []
     commit_calls_by place ongoing (c ∷ cs) begins was_open = record_calls place ongoing (c ∷ cs) ++ ongoing_calls ongoing begins was_open
@@ -99,11 +99,11 @@ module _ (layout : Layout) (side : Side) where
     abbrev pub checkpoint_calls_by : Bool → List Call
     checkpoint_calls_by was_open = image_calls_by layout (other_of side) was_open (epoch + 1, state) ++ switch_calls (other_of side)
 
-    -- none if the record fits, else those of a checkpoint
+    -- the calls that make room for a record: none if it fits (`true`), else those of a checkpoint
     abbrev pub room_calls_by : Bool → Bool → List Call
     room_calls_by was_open true = []
     room_calls_by was_open false = checkpoint_calls_by was_open
 
-    -- those that make room, by that root
+    -- the calls that make room for a record, where the sectors read so: `reads` states whether the other side's root is open
     abbrev pub room_calls : List (List Byte) → Bool → List Call
     room_calls reads fits = room_calls_by (is_root_open (other_of side) reads) fits

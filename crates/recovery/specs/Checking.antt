@@ -25,7 +25,7 @@ use Rattle.recovery.specs.Opens.{Opening, opens_by, side_at, ◌>>=◌}
 
 -- ---- the state of a side
 
--- the sector that a fault names; no other fault is met on a side
+-- the sector that `Damaged` names, else that of the label; no other fault is met on a side
 abbrev pub sector_of : StoreFault → Sector
 sector_of (Damaged at) = at
 sector_of other = label_at
@@ -57,7 +57,7 @@ abbrev pub state_after : Option Epoch → StoreFault → Result SideState StoreF
 state_after epoch (Damaged at) = Ok (state.Damaged epoch at)
 state_after epoch other = Err other
 
--- that sector of the side is damaged
+-- the side is damaged, and `at` is its first damaged sector
 abbrev pub IsDamagedAt : Sector → SideState → Type 0
 IsDamagedAt at (state.Damaged epoch sector) = sector ≡ at
 IsDamagedAt at state.Unused = ⊥
@@ -92,17 +92,17 @@ epoch_of (state.Whole figures) = Ok (Some figures.epoch)
 epoch_of (state.Damaged (Some epoch) at) = Ok (Some epoch)
 epoch_of (state.Damaged None at) = Err at
 
--- what opening makes of the side with this root
+-- what opening makes of a side in this state, whose root is in this sector
 abbrev pub taken_from : Sector → SideState → Taken
 taken_from root state.Unused = Err root
 taken_from root (state.Whole figures) = Ok figures
 taken_from root (state.Damaged epoch at) = Err at
 
--- the side of the greater epoch, of two with these epochs
+-- the side of the greater epoch, of two with these epochs; none if they are equal
 abbrev pub greater : Epoch → Epoch → Option Side
 greater a b = if a == b then None else if nat_lt a b then Some side.B else Some side.A
 
--- what opening makes of two sides with open roots, of which this one has the greater epoch
+-- what opening makes of two sides with open roots, of which this one has the greater epoch; if none has, root B is at fault
 abbrev pub taken_of : Option Side → Taken → Taken → Taken
 taken_of None a b = Err (root_at side.B)
 taken_of (Some side.A) a b = a
@@ -129,7 +129,7 @@ Agrees image (Err at) opened = opened ≡ Err (Damaged at)
 -- ---- the answer
 
 module _ (A : Type 0) (image : List (List Byte)) where
-  -- the image has a layout, and this is so of what a check finds
+  -- the image has a layout, and P holds of what a check finds on it
   abbrev pub Finds : (Checked → Type 0) → Type 0
   Finds P = (checked : Checked) × (checked_in A image ≡ Ok checked) × P checked
 
@@ -159,21 +159,28 @@ IsNoDamage Unready = ⊥
 
 -- ---- out of memory
 
--- The side's root is open, and it has a header. After the calls before, the reads that find this header were made, and what was read of the
--- side after these is good.
+-- The side's root is open, and its slot begins with a header. The calls are those in `before`, then the reads that find this
+-- header, and then reads of the side that met no fault (`AreGoodSoFar`).
 pub record IsGoodSideSoFar (A : Type 0) (layout : Layout) (side : Side) (image : List (List Byte)) (before calls : List Call) : Type 0 where
   pub epoch : Epoch
   pub header : side_at layout side image ≡ Ok (Some epoch)
   pub good : AreGoodSoFar A layout side image (before ++ header_reads layout side image) calls
 
--- Side A is not damaged. After it side B was read, which is good so far.
+-- Side A is not damaged. After some calls side B was read, and no fault was met on it.
 pub record IsGoodAfterA (A : Type 0) (layout : Layout) (image : List (List Byte)) (calls : List Call) : Type 0 where
   pub a : is_damaged (state_in A layout side.A image) ≡ false
   pub earlier : List Call
   pub b : IsGoodSideSoFar A layout side.B image earlier calls
 
--- No damage was met: the image has a label. After the calls before, the label was read and then side A, which is good so far. Or side A is not
--- damaged, and side B is good so far.
+-- The image has a label. Side B was read from its root on, and is good so far.
+pub record IsGoodAtB (A : Type 0) (image : List (List Byte)) (calls : List Call) : Type 0 where
+  pub layout : Layout
+  pub label : layout_in image ≡ Ok layout
+  pub earlier : List Call
+  pub b : IsGoodSideSoFar A layout side.B image earlier calls
+
+-- No damage was met, and the image has a label. Either the calls are those in `before`, a read of the label, and reads of side
+-- A that met no fault. Or side A is not damaged, and the last calls are reads of side B that met no fault.
 pub record HasNoDamageYet (A : Type 0) (image : List (List Byte)) (before calls : List Call) : Type 0 where
   pub layout : Layout
   pub label : layout_in image ≡ Ok layout

@@ -32,7 +32,8 @@ pub record KeepsPlace {A D T E : Type 0} (old new : StoreView A D) (result : Res
   pub same : (new.layout ≡ old.layout) × (new.register ≡ old.register) × (new.found ≡ old.found)
   pub unmoved : OnErr result ((new.side ≡ old.side) × (new.epoch ≡ old.epoch) × (new.journal ≡ old.journal))
 
--- It fails only for these reasons. After a fault of the disk the store shows the register before the call.
+-- Why a checkpoint fails, and what then stays. After a fault of the disk the store is broken, and keeps the register before the
+-- call to be shown.
 pub record FailsInCheckpoint {A D T : Type 0} {g : Ghosts D} (old new : Store A D g) (result : Result T StoreFault) : Type 0 where
   pub only_broken : IsErrOf result Broken → (old.broken ≡ true) × (new ≡ old)
   pub epochs :

@@ -26,7 +26,7 @@ is_other_open view store = is_root_open (other_of store.side) (view store.disk).
 
 -- ---- a checkpoint
 
--- a checkpoint of this state
+-- the disk has had the calls of a checkpoint of this state, as `MakesCallsByRoot` states
 abbrev pub CheckpointCalls : {T E : Type 0} → Layout → Side → Epoch → State → View → View → Result T E → Type 0
 CheckpointCalls layout side epoch state old new result =
     MakesCallsByRoot old new (other_of side) (checkpoint_calls_by layout side epoch state) result
@@ -46,7 +46,7 @@ pub record MakesCallsBeside {T E : Type 0} (old new : View) (side : Side) (begun
 module _ {D : Type 0} (A : Type 0) (view : D → View) (old new : StoreView A D) where
   -- ---- room for a record
 
-  -- no calls if the record fits, else those of a checkpoint
+  -- the disk has had no calls if the record fits, else those of a checkpoint, as `MakesCallsByRoot` states
   abbrev pub RoomCalls : {T E : Type 0} → Bool → Result T E → Type 0
   RoomCalls fits result =
       MakesCallsByRoot (view old.disk) (view new.disk) (other_of old.side)
@@ -54,7 +54,7 @@ module _ {D : Type 0} (A : Type 0) (view : D → View) (old new : StoreView A D)
 
   -- ---- after a record
 
-  -- the checkpoint that is under way, or one that begins
+  -- after a record the disk has had the calls of the checkpoint that is under way, or of one that begins (`MakesCallsBeside`)
   abbrev pub OngoingCalls : {T E : Type 0} → Option (Ongoing A) → Result T E → Type 0
   OngoingCalls ongoing result =
       MakesCallsBeside (view old.disk) (view new.disk) old.side (is_some new.ongoing) (MayBegin old.layout old.epoch old.journal)
@@ -72,7 +72,7 @@ module _ {D : Type 0} (A : Type 0) (view : D → View) (old new : StoreView A D)
   abbrev pub KeepsAll : {B : Type 0} → List (Asked B) → Type 0
   KeepsAll commands = (state : State) → IsHistory state commands → WhereKeptAs A view state old (IsKeptAs A view (after state commands) new)
 
-  -- the root of the side that does not count reads as before
+  -- the root of the side that does not count in old reads in new as in old
   abbrev pub KeepsOtherRoot : Type 0
   KeepsOtherRoot = sector (view new.disk).reads (root_at (other_of old.side)) ≡ sector (view old.disk).reads (root_at (other_of old.side))
 
@@ -84,16 +84,17 @@ module _ {D : Type 0} (A : Type 0) (view : D → View) (old new : StoreView A D)
   abbrev pub MayBeginAfter : List (Asked A) → Type 0
   MayBeginAfter kept = MayBegin old.layout old.epoch (following old.journal kept)
 
-  -- these commands are kept
+  -- the disk has had the calls that keep these commands (`kept_calls`), as `MakesCallsBeside` states
   abbrev pub KeepCalls : {T E : Type 0} → List (Asked A) → Result T E → Type 0
   KeepCalls kept result =
       MakesCallsBeside (view old.disk) (view new.disk) old.side (is_some new.ongoing) (MayBeginAfter kept) (kept_calls kept) result
 
   -- ---- a commit
 
-  -- One record of the accepted ones of these commands, in both halves if a checkpoint is under way. Then the checkpoint's next rows,
-  -- and after the last row the switch; or the calls that begin a checkpoint. They show where the commit left the store. A call that
-  -- fails is the last.
+  -- The calls of a commit: one record of the accepted ones of these commands, in both halves if a checkpoint is under way. Then
+  -- the checkpoint's next rows, and after the last row the switch; or the calls that begin a checkpoint. At `Ok` the disk has
+  -- had all of them, and the store is where the recorded commands leave it (`HasKept`). After an error the disk has had a
+  -- prefix of them.
   pub record CommitCalls {B T E : Type 0} (commands : List (Asked B)) (result : Result T E) : Type 0 where
     pub calls : OnOk result ((view old.disk).honest → (recorded : List (Asked A))
         × AreRecorded A old.register commands new.register recorded × HasKept old new recorded

@@ -24,7 +24,7 @@ use Rattle.recovery.specs.declared.damaged.Kind.TheVariants as kind
 use Rattle.recovery.specs.declared.damaged.Reason.{Reason}
 use Rattle.recovery.specs.declared.damaged.Reason.TheVariants as reason
 
--- a damaged sector
+-- a damaged sector, put together from its parts
 abbrev pub damage : Sector → Kind → Reason → Damage
 damage at what why = record { sector = at; kind = what; reason = why }
 
@@ -65,7 +65,7 @@ abbrev pub fault_of_first : Option Row → Reason
 fault_of_first None = reason.Unreadable
 fault_of_first (Some row) = reason.OutOfPlace
 
--- a sector with which something is wrong
+-- the sector, if something is wrong with it
 abbrev pub named : Sector → Kind → Option Reason → List Damage
 named at what None = []
 named at what (Some why) = damage at what why ∷ []
@@ -74,14 +74,14 @@ named at what (Some why) = damage at what why ∷ []
 abbrev pub row_damage : List (List Byte) → Sector → Header → ℕ → List Damage
 row_damage image slot h place = named (slot + place) (kind_at h place) (fault_at h place (row_in (sector image (slot + place))))
 
--- of so many rows of the slot from a place on, those with which something is wrong by themselves
+-- the rows with which something is wrong by themselves, of so many rows of the slot from a place on
 unfoldable pub rows_damage : List (List Byte) → Sector → Header → ℕ → Sectors → List Damage
 rows_damage image slot h place zero = []
 rows_damage image slot h place (suc n) = rows_damage image slot h place n ++ row_damage image slot h (place + n)
 
 -- ---- records
 
--- the first record that can't be read
+-- the sector of the first record that can't be read, if there is one
 abbrev pub bad_record : {A : Type 0} → Half A → Option Sector
 bad_record (Ok held) = None
 bad_record (Err at) = Some at
@@ -91,7 +91,7 @@ bad_record (Err at) = Some at
 abbrev pub record_kind : Layout → Side → List (List Byte) → Sector → Kind
 record_kind layout side image at = if at == half_end layout side - 1 then kind.Gate else kind.Record (big_from 0 2 (sector image at))
 
--- that record, by its sector
+-- the record in this sector that can't be read, if there is one, as a damaged sector
 abbrev pub record_damage : Layout → Side → List (List Byte) → Option Sector → List Damage
 record_damage layout side image None = []
 record_damage layout side image (Some at) = damage at (record_kind layout side image at) reason.Unreadable ∷ []
@@ -139,11 +139,11 @@ module _ (A : Type 0) where
   damage_in layout side image (state.Whole figures) = []
   damage_in layout side image (state.Damaged epoch first) = damage_from layout side image first
 
--- damage begins with this sector
+-- the first of the damaged sectors is this one
 abbrev pub Begins : Sector → List Damage → Type 0
 Begins first damaged = (what : Kind) × (why : Reason) × (more : List Damage) × (damaged ≡ damage first what why ∷ more)
 
--- what begins with a sector still does
+-- if the first damaged sector of old is some sector, it is also the first one of new
 abbrev pub KeepsFirst : List Damage → List Damage → Type 0
 KeepsFirst old new = (first : Sector) → Begins first old → Begins first new
 

@@ -13,6 +13,6 @@ use Rattle.recovery.specs.Calls.{label_sector, side_calls}
 abbrev pub filled_calls : Layout → State → List Call
 filled_calls layout state = side_calls layout ++ row_calls (slot_at layout side.A) (1, state) ++ Sync ∷ []
 
--- then the label
+-- the sides and the rows are written and synced as by `filled_calls`, then the label is written and synced
 abbrev pub format_with_calls : Layout → State → List Call
 format_with_calls layout state = filled_calls layout state ++ Write label_at (label_sector layout) ∷ Sync ∷ []

@@ -26,7 +26,8 @@ module _ (A : Type 0) where
       (s : State) → IsState s → (cs : List (Asked A)) (m : Item) (image : List (List Byte)) → IsTrue (is_message m)
       → Contains s.mail.items m → OpensTo A (after s cs) image → LacksWhereEnded image m s cs
 
-  -- The same of a message that an accepted command makes: it is missing exactly if a later command is accepted and ends it.
+  -- An accepted command makes a message, and an image opens to the state after it and some later commands. Then the message is
+  -- missing in the image exactly if one of the later commands is accepted and ends it.
   abbrev pub NoneLostMadeOnDisk : Type 0
   NoneLostMadeOnDisk =
       (s : State) → IsState s → (bs : List (Asked A)) (c : Asked A) (cs : List (Asked A)) (m : Item) (image : List (List Byte))

@@ -50,30 +50,31 @@ IsOpenAt side image = IsOpen (sector image (root_at side))
 abbrev pub IsClosedAt : Side → List (List Byte) → Type 0
 IsClosedAt side image = IsClosed (sector image (root_at side))
 
--- the open side whose epoch the other one's is below
+-- a side whose root is open counts if the other one is below it: its root is closed, or it states a smaller epoch
 abbrev pub GreaterCounts : Type 0
 GreaterCounts =
     (layout : Layout) (side : Side) (epoch : Epoch) (image : List (List Byte)) → IsOpenAt side image
     → slot_epoch layout side image ≡ Some epoch → IsBelow layout (other_of side) epoch image → side_in layout image ≡ Ok side
 
--- none if neither is open: sector 1 is at fault
+-- no side counts if neither root is open: sector 1 is at fault
 abbrev pub NoneCounts : Type 0
 NoneCounts =
     (layout : Layout) (image : List (List Byte)) → IsClosedAt side.A image → IsClosedAt side.B image → side_in layout image ≡ Err (Damaged 1)
 
--- none if side A is open, and the first sector of its slot is no header: that sector is at fault
+-- no side counts if side A is open, and the first sector of its slot is no header: that sector is at fault
 abbrev pub FirstAtFault : Type 0
 FirstAtFault =
     (layout : Layout) (image : List (List Byte)) → IsOpenAt side.A image → slot_epoch layout side.A image ≡ None
     → side_in layout image ≡ Err (Damaged (slot_at layout side.A))
 
--- nor if it is so of side B, and side A is closed or has a header
+-- no side counts if side B is open, the first sector of its slot is no header, and side A is closed or has a header: that
+-- sector of B is at fault
 abbrev pub SecondAtFault : Type 0
 SecondAtFault =
     (layout : Layout) (image : List (List Byte)) → IsClosedAt side.A image ⊎ ((epoch : Epoch) × (slot_epoch layout side.A image ≡ Some epoch))
     → IsOpenAt side.B image → slot_epoch layout side.B image ≡ None → side_in layout image ≡ Err (Damaged (slot_at layout side.B))
 
--- nor if both are open and state the same epoch: sector 2 is at fault
+-- no side counts if both are open and state one epoch: sector 2 is at fault
 abbrev pub EqualAtFault : Type 0
 EqualAtFault =
     (layout : Layout) (epoch : Epoch) (image : List (List Byte)) → IsOpenAt side.A image → IsOpenAt side.B image

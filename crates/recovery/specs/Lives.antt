@@ -74,12 +74,12 @@ HasBeenHonest view store = (view store.found).honest × (view store.disk).honest
 
 -- what is the same before and after a call
 module _ {A D : Type 0} {g : Ghosts D} (old new : Store A D g) where
-  -- the register, and the one from before the call
+  -- layout, register, the register from before the call, and the disk as it was found
   abbrev pub HasSameRegister : Type 0
   HasSameRegister =
       (new.layout ≡ old.layout) × (new.register ≡ old.register) × (new.before ≡ old.before) × (new.found.value ≡ old.found.value)
 
-  -- all but the journals, the disk, and whether it is broken
+  -- all but the journals, the disk, and whether the store is broken
   abbrev pub HasSameButJournals : Type 0
   HasSameButJournals =
       (new.layout ≡ old.layout) × (new.side ≡ old.side) × (new.epoch ≡ old.epoch)
@@ -125,11 +125,11 @@ module _ {D : Type 0} (A : Type 0) (view : D → View) where
   abbrev pub IsStoredIn : StoreView A D → Type 0
   IsStoredIn store = IsKeptAs store.register store
 
-  -- this holds if the disk is honest and a register in this state is on it
+  -- P holds if the disk is honest and a register in this state is on it
   abbrev pub WhereKeptAs : State → StoreView A D → Type 0 → Type 0
   WhereKeptAs state store P = (view store.disk).honest → IsKeptAs state store → P
 
-  -- this holds if the disk is honest and the store's register is on it
+  -- P holds if the disk is honest and the store's register is on it
   abbrev pub WhereKept : StoreView A D → Type 0 → Type 0
   WhereKept store P = WhereKeptAs store.register store P
 
@@ -177,7 +177,7 @@ module _ {D : Type 0} (A : Type 0) (view : D → View) where
   abbrev pub IsAnsweredCall : {B C : Type 0} → StoreView A D → List (Asked B) → List (Outcome C) → StoreView A D → Type 0
   IsAnsweredCall old commands outcomes new = IsCall (Open old) (answered A commands outcomes) (Open new)
 
-  -- it is not answered: all or none of the accepted ones are kept
+  -- a call for these commands is not answered: all or none of the accepted ones are kept
   abbrev pub IsUnansweredCall : {B : Type 0} → StoreView A D → List (Asked B) → StoreView A D → Type 0
   IsUnansweredCall old commands new =
       (recorded : List (Asked A)) × AreRecorded A old.register commands new.register recorded
@@ -187,7 +187,7 @@ module _ {D : Type 0} (A : Type 0) (view : D → View) where
   abbrev pub IsAnsweredOnHonest : {B C : Type 0} → StoreView A D → List (Asked B) → List (Outcome C) → StoreView A D → Type 0
   IsAnsweredOnHonest old commands outcomes new = (view old.disk).honest → IsAnsweredCall old commands outcomes new
 
-  -- if the disk is honest, it is not answered
+  -- if the disk is honest, the call for these commands is not answered
   abbrev pub IsUnansweredOnHonest : {B : Type 0} → StoreView A D → List (Asked B) → StoreView A D → Type 0
   IsUnansweredOnHonest old commands new = (view old.disk).honest → IsUnansweredCall old commands new
 
@@ -230,7 +230,7 @@ module _ (A : Type 0) (base : State) where
     pub history : IsHistory base kept
     pub reopens : OpensTo A (after base kept) image
 
-  -- the register of a store is so too
+  -- The register of the store is what the kept commands of these events made of the base, each accepted in its turn.
   pub record LastsInStore {D : Type 0} (events : List (Event A)) (store : StoreView A D) : Type 0 where
     pub state : IsState base
     pub kept : List (Asked A)
@@ -246,7 +246,7 @@ module _ {D : Type 0} (A : Type 0) (view : D → View) where
   BeginsWhereEachOpens =
       (base : State) (disk : D) → (view disk).honest → InEach (view disk) (OpensTo A base) → IsLife A view base [] (Closed disk)
 
-  -- and with one that opens to it as it reads, if nothing is pending
+  -- a life may begin with an honest disk on which nothing is pending, and the register that it opens to as it reads
   abbrev pub BeginsWhereDurable : Type 0
   BeginsWhereDurable =
       (opening : Opening) (disk : D) → (view disk).honest → ((k : Sector) → (view disk).pending k ≡ false)
@@ -258,7 +258,7 @@ module _ {D : Type 0} (A : Type 0) (view : D → View) where
       (base : State) (events : List (Event A)) (now : Phase A D) → IsLife A view base events now
       → InEach (view (disk_of now)) (Lasts A base events)
 
-  -- so is the register of a store that is not broken, and it is on the disk
+  -- the register of a store that is not broken is what lasts of the events, and it is on the disk
   abbrev pub LastsWhereSound : Type 0
   LastsWhereSound =
       (base : State) (events : List (Event A)) (store : StoreView A D) → IsLife A view base events (Open store)

@@ -35,7 +35,7 @@ IsOfOpening NoMemory = Unit {0}
 IsOfOpening EpochsUsedUp = ⊥
 IsOfOpening Unready = ⊥
 
--- A fault that is reported is the one that is there. A failing device and out of memory say nothing of what is there.
+-- A fault that is reported is the one that is there. `DiskFault` and `NoMemory` state nothing of what is there.
 abbrev pub Fails : {Y : Type 0} → StoreFault → Result Y StoreFault → Type 0
 Fails Unformatted is = is ≡ Err Unformatted
 Fails BadGeometry is = is ≡ Err BadGeometry
@@ -75,7 +75,7 @@ abbrev pub rest_in : (A : Type 0) → Place → Sector → View → Half A
 rest_in A place end disk = half_of {A = A} place.form place.count disk.reads place.next end
 
 module _ {A : Type 0} where
-  -- A fault is met. A fault in these records comes before it.
+  -- What is there, where a fault was met and these records were then judged: their first fault, else the one that was met.
   abbrev pub Stops : StoreFault → Result (Held A) StoreFault → Result Reached StoreFault → Type 0
   Stops fault (Ok held) is = Fails fault is
   Stops fault (Err first) is = is ≡ Err first
@@ -107,8 +107,8 @@ module _ {A : Type 0} where
     pub accepted : run s done ≡ Some t
     pub needs : IsTrue (needs_memory t next)
 
-  -- Of these records the first ones are played, each of their commands accepted. Memory ran out for the next one: to read it, of which Again
-  -- is the trace; or for one of its commands, after others that are accepted.
+  -- Of these records the first ones are played, each of their commands accepted. Memory ran out for the next one: to read it,
+  -- and then `Again` holds; or for one of its commands, after others that are accepted.
   pub record IsCutShort (s : State) (entries : List (Entry A)) (Again : Type 0) : Type 0 where
     pub done : List (Entry A)
     pub next : Entry A
@@ -126,15 +126,16 @@ header_reads layout side image = Read (root_at side) ∷ (if is_open (sector ima
 abbrev pub side_reads : Layout → List (List Byte) → List Call
 side_reads layout image = Read label_at ∷ (header_reads layout side.A image ++ header_reads layout side.B image)
 
--- All calls are those before, and then reads of so many sectors of the side's slot, each once, from the first on. None of these sectors is
--- the bad one.
+-- The calls are those in `before`, and then reads of the first `read` sectors of the side's slot, each once, in order. None of
+-- these sectors is the slot's first bad one.
 pub record AreGoodRows (layout : Layout) (side : Side) (image : List (List Byte)) (before calls : List Call) : Type 0 where
   pub read : Sectors
   pub last : calls ≡ before ++ read_calls (slot_at layout side) read
   pub good : (place : ℕ) → slot_in layout side image ≡ Err place → read ≤ place
 
--- All rows of the side's image are good, and there are good records up to a closed gate. Those that were played are accepted, up to the one
--- that memory ran out for: it could not be read, and so was read again, or one of its commands needs memory.
+-- All rows of the side's image are good, and its half has good records up to a closed gate. Those that were played are
+-- accepted, up to one that memory ran out for: it could not be read, and so was read again, or one of its commands needs
+-- memory.
 pub record AreAllGood (A : Type 0) (layout : Layout) (side : Side) (image : List (List Byte)) (before calls : List Call) : Type 0 where
   pub base : Base
   pub rows : base_in layout side image ≡ Ok base
@@ -142,13 +143,13 @@ pub record AreAllGood (A : Type 0) (layout : Layout) (side : Side) (image : List
   pub cut : IsCutShort base.1 records.0.0 (HasReadAgain (before ++ image_reads (slot_at layout side) base) calls
       (half_at layout side) (records.0.1 + 1))
 
--- after the calls before, only rows of the side were read, and these are good; or all its rows and all its records are good, and those that
--- were played are accepted
+-- The reads of a side after the calls in `before` met no fault. Either only rows of the side were read, and these are good. Or
+-- all its rows and all its records are good, and those that were played are accepted.
 abbrev pub AreGoodSoFar : Type 0 → Layout → Side → List (List Byte) → List Call → List Call → Type 0
 AreGoodSoFar A layout side image before calls = AreGoodRows layout side image before calls ⊎ AreAllGood A layout side image before calls
 
--- No fault was met: the image has a label and a side that counts. After the calls before, the reads that find this side were made, and
--- what was read of it after these is good.
+-- No fault was met, and the image has a label and a side that counts. The calls are those in `before`, then the reads that find
+-- this side, and then reads of the side that met no fault (`AreGoodSoFar`).
 pub record HasNoFaultYet (A : Type 0) (image : List (List Byte)) (before calls : List Call) : Type 0 where
   pub layout : Layout
   pub side : Side

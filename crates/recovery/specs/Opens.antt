@@ -34,7 +34,8 @@ headed at (Some epoch) = Ok (Some epoch)
 unfoldable pub side_at : Layout → Side → List (List Byte) → Result (Option Epoch) StoreFault
 side_at layout side image = if is_open (sector image (root_at side)) then headed (slot_at layout side) (slot_epoch layout side image) else Ok None
 
--- the side of the greater epoch
+-- The side that counts, by the epoch of each one with an open root: the one of the greater epoch, or the only one. Root A is at
+-- fault if there is none, root B if both have one epoch.
 abbrev pub chosen : Option Epoch → Option Epoch → Result Side StoreFault
 chosen None None = Err (Damaged (root_at side.A))
 chosen (Some a) None = Ok side.A
@@ -116,7 +117,7 @@ module _ (A : Type 0) where
   unfoldable pub played_by : Layout → Side → State → List (List Byte) → Result Reached StoreFault
   played_by layout side s image = played_from s (half_of {A = A} (slot_form layout side image) s.count image (half_at layout side) (half_end layout side))
 
-  -- what it opens to from this side: its image, then its records
+  -- what an image of a disk opens to from this side: the rows in its slot, then the records in its half
   unfoldable pub opens_by : Layout → Side → List (List Byte) → Result Opening StoreFault
   opens_by layout side image = do
     base ← base_in layout side image

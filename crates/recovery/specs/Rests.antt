@@ -58,7 +58,7 @@ abbrev pub unless_wrong : {X : Type 0} → Option Reason → Option X → Option
 unless_wrong None x = x
 unless_wrong (Some why) x = None
 
--- one row more is kept, or it is left out
+-- one row more of this kind is kept, if the loading goes on with it; else it is left out
 abbrev pub kept_by : Kept → Kind → Option Loading → Kept
 kept_by kept what None = kept
 kept_by kept what (Some more) = record { loading = more; rows = with_row kept.rows what }
@@ -99,8 +99,8 @@ module _ (limits : Limits) (image : List (List Byte)) (slot : Sector) (stated : 
   abbrev pub kept_under : Header → Kept
   kept_under h = rows_kept image slot stated (none_kept limits h stated) (rows_stated stated)
 
-  -- The register of the rows that are kept. If fewer are kept of a kind than the header states, it is read as one that states as
-  -- many as are; so often at most. Also the header as it is then.
+  -- The register of the rows that are kept under this header, and the header. If they make none, the rows are kept under the
+  -- lowered header, and so on, in so many attempts in all.
   unfoldable pub made_by : ℕ → Header → Option (Header × State)
   made_by zero h = None
   made_by (suc n) h = let kept = kept_under h in made_or h (finished kept.loading) (made_by n (lowered h kept.rows))
@@ -140,7 +140,7 @@ pub data AreReadable (A : Type 0) (form : Form) (image : List (List Byte)) (end 
       → record_at form before image at end ≡ Ok (Some (commands, gate))
       → AreReadable A form image end (before + length commands) gate n → AreReadable A form image end before at (n + 1)
 
--- so many can be read from a gate on, if there is one, which comes with the number of commands before it; else none
+-- so many records can be read from a gate on, if there is one, which comes with the number of commands before it; else none
 abbrev pub AreReadableAt : (A : Type 0) → Form → List (List Byte) → Sector → Option (ℕ × Sector) → ℕ → Type 0
 AreReadableAt A form image end None n = n ≡ 0
 AreReadableAt A form image end (Some x) n = AreReadable A form image end x.0 x.1 n
@@ -153,8 +153,9 @@ gate_after form before image at bad end =
     let gate = bad + stated_size form (sector image bad) in
     if nat_lt at bad && (nat_le commands most_commands && nat_lt gate end) then Some (before + commands, gate) else None
 
--- From a gate on, after so many commands, records that can be read lead to one in this sector, and so many after it can be read: from
--- where it states that it ends, if it can't be read itself, else from where it ends. That the records end at it, `LeadsTo` alone says.
+-- From a gate on, after so many commands, records that can be read lead to one in this sector, and so many after it can be
+-- read. If that one can't be read itself, they are read from where it states that it ends, else from where it ends. That the
+-- records end at it is stated by `LeadsTo` alone.
 pub data AreLater (A : Type 0) (form : Form) (image : List (List Byte)) (end : Sector) : ℕ → Sector → Sector → ℕ → Type 0 where
   after_unreadable : (before : ℕ) (at bad : Sector) (later : ℕ) → record_at {A = A} form before image at end ≡ Err bad
       → AreReadableAt A form image end (gate_after form before image at bad end) later → AreLater A form image end before at bad later
@@ -217,7 +218,7 @@ NothingIsLeft layout side image = (h : Header) → HasHeader layout side image h
 abbrev pub Size : Type 0
 Size = ℕ × Epoch
 
--- that of what is left of a side; none if nothing is
+-- the size of what is left of a side; none if nothing is left
 abbrev pub IsSizeOf : (A : Type 0) → Layout → Side → List (List Byte) → Option Size → Type 0
 IsSizeOf A layout side image None = NothingIsLeft layout side image
 IsSizeOf A layout side image (Some size) =

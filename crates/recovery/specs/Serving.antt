@@ -79,12 +79,15 @@ module _ {A D : Type 0} (old : StoreView A D) (fits : Bool) (kept : List (Asked 
       room_calls_by old.layout old.side old.epoch old.register was_open fits
       ++ commit_calls_by now.layout now.side now.epoch now.journal now.ongoing kept begins also_open
 
-  -- the same, by what that root reads as before the call
+  -- The calls of the disk that a desk makes for a command, where the sectors read so before the call. A checkpoint reads the
+  -- other side's root as it is there. So does a commit without a checkpoint before it. After a checkpoint `also_open` states
+  -- how the commit reads the root of the side that no longer counts.
   abbrev pub desk_calls : List (List Byte) → Bool → List Call
   desk_calls reads also_open = desk_calls_by (is_root_open (other_of old.side) reads) (if fits then is_root_open (other_of old.side) reads else also_open)
 
--- The calls of a desk that keeps the accepted ones of these commands: all calls of one that answers `Ok`, a prefix of them however
--- it ends (a call that fails is the last), and the same on any disk, with the writes of the other side's root or without them.
+-- The calls of a desk that keeps the accepted ones of these commands: at `Ok` the disk has had all of them, and after an error
+-- a prefix. At `Ok` the store is where the recorded commands leave it (`HasKept`). On an honest disk the other side's root is
+-- first read as it is in old, on any other disk as open or as closed.
 pub record DeskCalls {D B T E : Type 0} (A : Type 0) (view : D → View) (old new : StoreView A D) (fits : Bool) (commands : List (Asked B))
     (result : Result T E) : Type 0 where
   pub calls : OnOk result ((view old.disk).honest → (recorded : List (Asked A)) × (also_open : Bool)

@@ -47,19 +47,19 @@ module _ (A : Type 0) where
 
 -- What a switch does to a register that is on the disk, with this checkpoint under way whose rows are all written.
 module _ (A : Type 0) (layout : Layout) (side : Side) (epoch : Epoch) (ongoing : Ongoing A) (old new : View) where
-  -- a stop leaves the register
+  -- a stop at any moment of the switch leaves an image that opens to the register
   abbrev pub SwitchLeaves : Type 0
   SwitchLeaves =
       (journal : Place) (state : State) → old.honest → IsKept A layout side epoch journal (Some ongoing) state old
       → LeavesOnly old new (OpensTo A state)
 
-  -- the register is on the other side
+  -- after the switch each stop leaves the register on the other side
   abbrev pub SwitchStores : Type 0
   SwitchStores =
       (journal : Place) (state : State) → old.honest → IsKept A layout side epoch journal (Some ongoing) state old
       → IsStored A layout (other_of side) (epoch + 1) ongoing.journal state new
 
--- The other half, of so many sectors, never fills before the current one.
+-- So few sectors of the other half, which has so many in all, are used that it does not fill before the current one.
 abbrev pub IsAhead : ℕ → Place → Place → Type 0
 IsAhead sectors current other = 4 * (other.next - other.first) + 3 * sectors ≤ 6 * (current.next - current.first)
 

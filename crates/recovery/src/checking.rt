@@ -6,7 +6,7 @@ ghost use Rattle.sector_disk.specs.Run.{LeavesOnly};
 ghost use Rattle.sector_disk.specs.declared.record.Call.TheVariants.{Sync};
 ghost use Rattle.checkpoint.specs.Layout.{disk_size};
 ghost use Rattle.recovery.specs.declared.fault.StoreFault.TheVariants.{Damaged, DiskFault, NoMemory};
-ghost use Rattle.recovery.specs.Checking.{HasNoDamageYet, HasSynced, HasSyncedUnless, IsCheckOf, IsDamagedAt, IsGoodSideSoFar, IsNoDamage};
+ghost use Rattle.recovery.specs.Checking.{HasNoDamageYet, HasSynced, HasSyncedUnless, IsCheckOf, IsDamagedAt, IsGoodAtB, IsGoodSideSoFar, IsNoDamage};
 ghost use Rattle.recovery.specs.Checking.{damaged_sector, epoch_of, first_damaged, is_damaged, opened_by, state_after, state_in, taken_from};
 ghost use Rattle.recovery.specs.Lives.{Answered, Closed, IsCall};
 ghost use Rattle.recovery.specs.Opening.{Gives, IsOfOpening};
@@ -190,6 +190,7 @@ fn check_sides<A: Allocator + Copy, D: Disk>(alloc: A, disk: &mut D) -> Result<C
     ensures exact { (D.view disk.old).honest → IsCheckOf A (D.view disk.old).reads result }
     ensures memory { IsErrOf result NoMemory → (D.view disk.old).honest
         → HasNoDamageYet A (D.view disk.old).reads (D.view disk.old).calls (D.view disk.new).calls }
+    ensures gave_up { (at : ℕ) → IsErrOf result (Damaged at) → (D.view disk.old).honest → IsGoodAtB A (D.view disk.old).reads (D.view disk.new).calls }
     ensures room { IfOk result (λ checked. disk_size checked.layout ≤ (D.view disk.old).sectors) }
     ensures on_disk { (at : ℕ) → IfOk result (λ checked. IsDamagedAt at checked.a ⊎ IsDamagedAt at checked.b → at < (D.view disk.old).sectors) }
     ensures reported_on_disk { (at : ℕ) → IsErrOf result (Damaged at) → at < (D.view disk.old).sectors }
@@ -207,7 +208,7 @@ fn check_sides<A: Allocator + Copy, D: Disk>(alloc: A, disk: &mut D) -> Result<C
 /// those after it. The disk is synced first, and then only read. At most one register is in memory, under `alloc`.
 ///
 /// `Unformatted` and `BadGeometry` report a disk without a layout. `Damaged` is the first damaged sector of side A, where memory ran out
-/// after it was found. Other damage is in the states.
+/// at side B, which was good so far. Other damage is in the states.
 pub fn check<A: Allocator + Copy, D: Disk>(alloc: A, disk: &mut D) -> Result<Checked, StoreFault>
     // The states are those of the disk as it reads, and so is damage that is reported as a fault.
     ensures exact { (D.view disk.old).honest → IsCheckOf A (D.view disk.old).reads result }
@@ -223,10 +224,15 @@ pub fn check<A: Allocator + Copy, D: Disk>(alloc: A, disk: &mut D) -> Result<Che
     ensures on_disk { (at : ℕ) → IfOk result (λ checked. IsDamagedAt at checked.a ⊎ IsDamagedAt at checked.b → at < (D.view disk.old).sectors) }
     ensures reported_on_disk { (at : ℕ) → IsErrOf result (Damaged at) → at < (D.view disk.old).sectors }
 
-    // Out of memory never masks damage that was read. Either only good rows were read of side A after its header, or all its rows and all its
-    // records are good; this is counted from the sync on. Or side A is not damaged, and the same is so of side B.
+    // Out of memory masks no bad row or record that was read, and no refused command before the one that memory ran out for. After
+    // the sync the label was read, the header of side A, and then only good rows of side A; or all its rows and records are good.
+    // Or side A is not damaged, and side B was read last: its header, and then only good rows of it; or all its rows and records
+    // are good.
     ensures memory { IsErrOf result NoMemory → (D.view disk.old).honest
         → HasNoDamageYet A (D.view disk.old).reads ((D.view disk.old).calls ++ Sync ∷ []) (D.view disk.new).calls }
+
+    // A damaged side A is reported as a fault only where memory ran out at side B, which was good so far.
+    ensures gave_up { (at : ℕ) → IsErrOf result (Damaged at) → (D.view disk.old).honest → IsGoodAtB A (D.view disk.old).reads (D.view disk.new).calls }
 
     // It fails only for these reasons.
     ensures kinds { IfErr result IsOfOpening }

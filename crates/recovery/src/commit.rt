@@ -21,9 +21,10 @@ impl<A: Allocator + Copy, D: Disk> Store<A, D> {
     /// is under way, at most 8 rows of its image are written after the record; after the last row its side counts. Returns
     /// the outcome of each command, under `alloc`.
     ///
-    /// `Broken`: the device has failed in an earlier call. `NoMemory`: no memory for the outcomes. `Unready`: a record of
-    /// all commands would not fit, so a checkpoint must be made first. After these nothing is changed. After `DiskFault` the
-    /// disk must be opened again. It then opens to the register before the call, with none or all of the accepted commands.
+    /// `Broken`: the device has failed in an earlier call. `Unready`: a record of all commands would not fit, so a checkpoint
+    /// must be made first. `NoMemory`: such a record would fit, but there is no memory for the outcomes or for the list of
+    /// accepted commands. After these nothing is changed. After `DiskFault` the disk must be opened again. It then opens to
+    /// the register before the call, with none or all of the accepted commands.
     pub fn commit<B: Allocator, C: Allocator + Copy>(
         &mut self,
         alloc: C,
@@ -47,11 +48,11 @@ impl<A: Allocator + Copy, D: Disk> Store<A, D> {
         if commands.is_empty() {
             return Ok(Vec::new(alloc));
         }
-        let mut outcomes = Vec::with_capacity(alloc, commands.len())?;
-        let mut accepted = Vec::with_capacity(alloc, commands.len())?;
         if !self.journal.has_room(commands) {
             return Err(StoreFault::Unready);
         }
+        let mut outcomes = Vec::with_capacity(alloc, commands.len())?;
+        let mut accepted = Vec::with_capacity(alloc, commands.len())?;
         self.before = Before::of(&self.register);
         apply_all(
             &mut self.register,

@@ -38,7 +38,8 @@ fn append_also<A: Allocator, B: Allocator, D: Disk>(
     journal.append_both(disk, &mut ongoing.journal, commands)
 }
 
-// The same with an optional checkpoint. Without one nothing is done.
+// Adds a record of these commands to the journal and to that of the checkpoint in an `Option`, in the same two syncs. Callers
+// make sure that there is one.
 fn append_ongoing<A: Allocator, B: Allocator, D: Disk>(
     disk: &mut D,
     journal: &mut Journal<A>,

@@ -1,6 +1,7 @@
 //! What holds over the whole life of a disk.
 
 ghost use Rattle.std.specs.Prelude.{◌≡◌, ◌∷◌, [], List, false};
+ghost use Rattle.sector_disk.specs.Crash.{IsFilled};
 ghost use Rattle.sector_disk.specs.Memory.{memory_view};
 ghost use Rattle.centre_core.specs.State.{State};
 ghost use Rattle.recovery.specs.Lives.{BeginsWhereDurable, BeginsWhereEachOpens, LastsOnDisk, LastsWhereSound, NoMessageIsLost};
@@ -20,9 +21,9 @@ pub fn begins<A: Allocator, D: Disk>()
 {}
 
 /// Over the whole life of a disk, through any calls and any stops between them and within them: each image that a stop may
-/// leave opens to what accepted commands made of the base, to all of each call that was answered and to all or none of each
-/// other call. So does the register of a store that is not broken, and it is on the disk. A message that waited in the base, or that one of these
-/// commands made, is missing exactly where a later one of them ended it.
+/// leave opens to what accepted commands made of the base: all of each call that was answered, and all or none of each other
+/// call. The register of a store that is not broken is made by such commands too, and is on the disk. A message that waited in
+/// the base, or that one of these commands made, is missing exactly where a later one of them ended it.
 ///
 /// This function does nothing: calling it gives its clauses.
 pub fn lasts<A: Allocator, D: Disk>()
@@ -39,13 +40,15 @@ pub fn stores<A: Allocator, D: Disk>(_store: &Store<A, D>)
     ensures { _store.now.broken ≡ false → HasBeenHonest D.view (view_of _store.now) → IsStoredIn A D.view (view_of _store.now) }
 {}
 
-/// `MemoryDisk::crash` is such a stop.
+/// `MemoryDisk::crash` is a stop in the life of a disk: the life goes on with the disk that it returns. Each pending sector that
+/// `fill` names holds the bytes named last for it.
 pub fn crash<A: Allocator, M: Allocator>(
     disk: MemoryDisk<M>,
     fill: &[(u64, [u8; 512])],
 ) -> MemoryDisk<M>
-    ensures { (base : State) (events : List (Event A)) → IsLife A memory_view base events (Closed disk)
+    ensures life { (base : State) (events : List (Event A)) → IsLife A memory_view base events (Closed disk)
         → IsLife A memory_view base (Unanswered [] ∷ events) (Closed result) }
+    ensures filled { IsFilled (memory_view disk).reads (memory_view disk).pending fill.now (memory_view result).reads }
 {
     disk.crash(fill)
 }

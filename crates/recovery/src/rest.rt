@@ -55,8 +55,8 @@ pub struct Rest<A: Allocator> {
     pub left_out: LeftOut,
     /// The register of the other rows, after the commands of the records up to the first one at fault.
     pub register: Register<A>,
-    /// The first data sector of that record, if there is one: it can't be read, or a command of it is not accepted. The commands of it
-    /// before that one are applied.
+    /// The sector at fault, if there is one: the first data sector of that record, or the gate in the half's last sector. The record can't be
+    /// read, or a command of it is not accepted. Its commands before that one are applied.
     pub stop: Option<u64>,
     /// How many records after it can be read, one after another. If it can't be read itself, they are looked for where it states that it
     /// ends. None if there is no such record.
@@ -328,8 +328,9 @@ fn whole<A: Allocator>(opened: Opened<A>) -> Rest<A>
 }
 
 /// Reads what is left of the register on a disk. If the disk opens, it is the register that it opens to. Else it is that of the side of
-/// which more accepted commands are left, or of the one with the greater epoch if these are equal; `None` if neither has an open root and
-/// a header. At most one register is in memory, under `alloc`. The disk is only read: sync it before.
+/// which more accepted commands are left, or of the one with the greater epoch if these are equal. `None` if neither has an open root and
+/// a header within the limits, or if the rows of neither make a register. At most one register is in memory, under `alloc`. The disk is
+/// only read: sync it before.
 ///
 /// `Unformatted` and `BadGeometry` report a disk without a layout. Other damage is no fault.
 pub fn read_rest<A: Allocator + Copy, D: Disk>(

@@ -48,10 +48,11 @@ impl<A: Allocator + Copy, B: Allocator + Copy, D: Disk> Desk<A> for Store<B, D> 
         ensures calls { DeskCalls B D.view (view_of self.old) (view_of self.new)
             (fits_in B self.old.journal (command.entry ∷ [])) (command.now ∷ []) result }
 
-        // Out of memory, if a record of the command fits, the same side counts, with the same journal, and a checkpoint that is under way
-        // stays as it was; else a checkpoint was made. The epochs are used up only where no record of the command fits.
+        // Out of memory, if a record of the command fits, the side that counts, its journal and a checkpoint under way stay as
+        // they were; else a checkpoint was made. The epochs are used up only where no record of the command fits, and then the
+        // disk is not called.
         ensures memory { IsErrOf result Memory → HasRoom (view_of self.old) (view_of self.new) (fits_in B self.old.journal (command.entry ∷ [])) }
-        ensures epochs { IsErrOf result Epochs → LacksRoom B self.old.journal (command.entry ∷ []) }
+        ensures epochs { IsErrOf result Epochs → LacksRoom B self.old.journal (command.entry ∷ []) × (self.new.disk ≡ self.old.disk) }
 
         // In the life of the disk this is a call that is answered with this reply, or one that is not answered.
         ensures answered { IfOk result (λ reply. IsAnsweredOnHonest B D.view (view_of self.old) (command.now ∷ []) (Replied reply ∷ []) (view_of self.new)) }

@@ -42,7 +42,7 @@ fn epoch_of(bytes: &[u8]) -> Option<u64>
     }
 }
 
-// The header of a side whose root is open.
+// Reads the header of a side; `None` if the side's root is closed. A slot that begins with no header is at fault.
 #[tactic(auto, unfolding(crate::specs::Opens::side_at), using(sector_disk::proofs::Reading::one_read))]
 pub(crate) fn read_head<D: Disk>(
     disk: &mut D,
@@ -95,7 +95,8 @@ pub(crate) fn greater(a: u64, b: u64) -> Option<Side>
     }
 }
 
-// The side of the greater epoch.
+// The side that counts, of those with an open root, by their headers: the one of the greater epoch. Sector 1 is at fault if
+// there is none, sector 2 if both have one epoch.
 fn chosen(a: Option<Head>, b: Option<Head>) -> Result<Current, StoreFault>
     ensures value { Gives (λ current. current.side) result (chosen (option_map (λ head. head.epoch) a) (option_map (λ head. head.epoch) b)) }
     ensures form { (form : Side → Form) → HasForm (form Side.A) a → HasForm (form Side.B) b → IfOk result (λ current. current.form ≡ form current.side) }

@@ -27,7 +27,7 @@ pub(crate) struct Stated {
     pub(crate) form: Form,
 }
 
-// The header of a side.
+// Reads the header of a side, whether or not its root is open; `None` if its slot begins with none.
 #[tactic(auto, using(sector_disk::proofs::Reading::one_read))]
 pub(crate) fn read_header<D: Disk>(
     disk: &mut D,

@@ -29,7 +29,7 @@ pub struct Store<A: Allocator, D: Disk> {
     pub(crate) before: Before<Register<A>>,
     // The disk as it was when the store was opened.
     pub(crate) found: Before<D>,
-    // The device has failed. So it is called in a call too, until that has kept on the disk what it did.
+    // Whether the device has failed. It is set within a call too, until what the call did is on the disk.
     pub(crate) broken: bool,
     ghost room: { disk_size layout ≤ (D.view disk).sectors },
     ghost limits: { register.registered.limits ≡ layout.limits },
@@ -38,8 +38,8 @@ pub struct Store<A: Allocator, D: Disk> {
     ghost next: { journal.next < half_end layout side },
     ghost counts: { journal.count ≤ register.count },
     ghost other: { IfSome ongoing (λ it. BelongsTo layout side epoch journal register.count it) } by { Prim.hlevel props },
-    // If the disk was honest when the store was opened, it is so, and the register is on it. A ghost field has one proof at
-    // most, so this is truncated: `lives::stores` gives it as it is.
+    // Of a store that is not broken: if the disk was honest when the store was opened, it still is, and the register is on it.
+    // A ghost field has one proof at most, so this is truncated: `lives::stores` gives it as it is.
     ghost stored: { ∥ (broken ≡ false → (D.view found.value).honest
         → (D.view disk).honest × IsKept A layout side epoch journal ongoing register (D.view disk)) ∥₁ },
 }

@@ -1,4 +1,4 @@
--- The same record in two halves of a disk.
+-- A record of the same commands in each of two halves of a disk.
 use Rattle.std.specs.Prelude.{◌⊎◌, ◌≤◌, ◌+◌, List, length}
 use Rattle.std.specs.Borrow.{Bor}
 use Rattle.sector_disk.specs.Numbers.{Sectors}

@@ -35,7 +35,7 @@ module _ (A : Type 0) (layout : Layout) (current : Current) where
       (records : HasRecords A current.form s.count old.reads (half_at layout current.side) (half_end layout current.side))
       × IsCutShort s records.0.0 (HasReadAgain old.calls new.calls (half_at layout current.side) (records.0.1 + 1))
 
-  -- nothing was read, or this
+  -- the disk had no call, or all records of the side are good and playing them was cut short (`AreCutShort`)
   abbrev pub IsUnreadOrGood : State → View → View → Type 0
   IsUnreadOrGood s old new = (new.calls ≡ old.calls) ⊎ AreCutShort s old new
 

@@ -24,6 +24,6 @@ pub record StepsInCall {A D T : Type 0} {g : Ghosts D} (view : D → View) (old 
 abbrev pub rows_calls_of : {A D : Type 0} → StoreView A D → Ongoing A → List Call
 rows_calls_of store was = rows_calls store.layout store.side store.epoch was
 
--- and those after the last row
+-- the calls after the last row of a checkpoint that is under way: a sync, and the switch to its side
 abbrev pub end_calls_of : {A D : Type 0} → StoreView A D → List Call
 end_calls_of store = end_calls store.side true

@@ -14,8 +14,9 @@ use Rattle.recovery.specs.declared.fault.StoreFault.{StoreFault}
 use Rattle.recovery.specs.declared.fault.StoreFault.TheVariants.{Broken, DiskFault, EpochsUsedUp, NoMemory}
 use Rattle.recovery.specs.declared.store.Store.{Store}
 
--- It fails only for these reasons. Out of memory it stays where it was if a record of the command fits, else a checkpoint was made. The
--- epochs are used up only where no such record fits. After a fault of the disk the store shows the register before the call.
+-- Why a commit of one command fails, and what then stays. Out of memory the store's side, epoch, journal and checkpoint under
+-- way stay if a record of the command fits, else a checkpoint was made. `EpochsUsedUp` comes only where no such record fits.
+-- After a fault of the disk the store is broken, and keeps the register before the call to be shown.
 pub record RefusesOne {A B D T : Type 0} {g : Ghosts D} (view : D → View) (old new : Store A D g) (command : Bor (Asked B))
     (result : Result T StoreFault) : Type 0 where
   pub broken : old.broken ≡ true → (result ≡ Err Broken) × (new ≡ old)

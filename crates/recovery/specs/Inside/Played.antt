@@ -15,7 +15,7 @@ pub record IsReadable (journal : Place) (disk : View) : Type 0 where
   pub within : journal.end ≤ disk.sectors
   pub room : IsCounted journal
 
--- The journal is that of the same half, with a next gate in it.
+-- The new journal is of the half and form of the old one, and its next gate is in that half.
 pub record MovesWithin (old new : Place) : Type 0 where
   pub first : new.first ≡ old.first
   pub end : new.end ≡ old.end
@@ -23,7 +23,7 @@ pub record MovesWithin (old new : Place) : Type 0 where
   pub form : new.form ≡ old.form
   pub room : IsCounted new
 
--- The journal moves on, and the register plays on under the same limits.
+-- The new journal is within the old one's half (`MovesWithin`), and the states s and t have the same limits.
 pub record PlaysWithin (old new : Place) (s t : State) : Type 0 where
   pub journal : MovesWithin old new
   pub limits : t.registered.limits ≡ s.registered.limits
@@ -33,9 +33,9 @@ module _ {A : Type 0} where
   abbrev pub HasPlayed : State → State → Half A → Half A → Type 0
   HasPlayed s t half rest = (entries : List (Entry A)) × (half ≡ with_prefix entries rest) × (played s entries ≡ Ok t)
 
-  -- Half is some records that are played from s on, then one that memory ran out for, and then more. Either that one could not be read, of
-  -- which Again is the trace: it is the first of rest, and none of its commands is applied. Or those up to t are applied, the next one needs
-  -- memory, and rest is what comes after the record.
+  -- Half is some records that are played from s on, then one that memory ran out for, and then more. Either that one could not
+  -- be read: then `Again` holds, rest begins with it, and none of its commands is applied. Or its commands up to t are applied,
+  -- the next one needs memory, and rest is what comes after the record.
   pub record RunsShort (s t : State) (half rest : Half A) (Again : Type 0) : Type 0 where
     pub done : List (Entry A)
     pub next : Entry A
@@ -51,19 +51,19 @@ module _ (A : Type 0) (old new : Place) (s t : State) (disk : View) where
   abbrev pub PlaysOne : Result Bool StoreFault → Type 0
   PlaysOne result = PlaysOn result t new.next (rest_in A new old.end disk) (played_from s (half_in A old disk))
 
-  -- those before the new place are played
+  -- the records before the new place are played, from s to t
   abbrev pub HasMovedOn : Type 0
   HasMovedOn = HasPlayed s t (half_in A old disk) (rest_in A new old.end disk)
 
-  -- memory ran out for the record at the new place, of which Again is the trace, or for a command of the one before it
+  -- memory ran out for the record at the new place, and then `Again` holds, or for a command of the record before that place
   abbrev pub HasRunShort : Type 0 → Type 0
   HasRunShort Again = RunsShort s t (half_in A old disk) (rest_in A new old.end disk) Again
 
-  -- all are played, or a fault is met before the rest of the half
+  -- all records are played, or a fault is met before the rest of the half
   abbrev pub PlaysAll : Result Unit StoreFault → Type 0
   PlaysAll result = StopsAt result t new.next (rest_in A new old.end disk) (played_from s (half_in A old disk))
 
-  -- all are played, or the first fault of the half is reported
+  -- all records are played, or the first fault of the half is reported
   abbrev pub PlaysHalf : Result Unit StoreFault → Type 0
   PlaysHalf result = EndsAt (λ done. new.next) result t (played_from s (half_in A old disk))
 

@@ -6,7 +6,7 @@ use Rattle.sector_disk.specs.Numbers.{Sector, Sectors}
 use Rattle.recovery.specs.declared.fault.StoreFault.{StoreFault}
 use Rattle.recovery.specs.declared.fault.StoreFault.TheVariants.{BadGeometry, Broken, Damaged, DiskFault, EpochsUsedUp, NoMemory, Unformatted, Unready}
 
--- The disk is only read, whatever the call answers. It fails for such a reason alone.
+-- The disk is only read, whatever the call answers. The call fails only with a fault of which `IsReason` holds.
 pub record ReadsOrFails {T : Type 0} (IsReason : StoreFault → Type 0) (old new : View) (result : Result T StoreFault) : Type 0 where
   pub kinds : IfErr result IsReason
   pub disk : OnlyReads old new (IsErrOf result DiskFault)
@@ -55,7 +55,7 @@ IsOfRecord at NoMemory = Unit {0}
 IsOfRecord at EpochsUsedUp = ⊥
 IsOfRecord at Unready = ⊥
 
--- why neither side counts: a sector below 3 is at fault (the roots are sectors 1 and 2)
+-- The fault where no side counts: `Damaged`, and its sector is below 3. `chosen` gives sector 1 or 2, the roots of A and B.
 abbrev pub IsOfRoots : StoreFault → Type 0
 IsOfRoots Unformatted = ⊥
 IsOfRoots BadGeometry = ⊥

@@ -45,7 +45,7 @@ module _ (slot : Slot) (image : List (List Byte)) where
   abbrev pub kept_after : Loading → Kept
   kept_after loading = rows_kept image slot.first slot.stated (kept_of loading (without_rows slot.stated)) (rows_stated slot.stated)
 
-  -- those that are kept if the slot's header is this one
+  -- the rows of the slot that are kept if its header is this one
   abbrev pub kept_by_header : Header → Kept
   kept_by_header h = kept_under slot.limits image slot.first slot.stated h
 
@@ -57,7 +57,8 @@ module _ (slot : Slot) (image : List (List Byte)) where
 abbrev pub LeadsFrom : (A : Type 0) → Place → View → State → State → Option ℕ → Type 0
 LeadsFrom A place disk s t bad = LeadsTo A place.form disk.reads place.end place.count place.next s t bad
 
--- One record more was played, and the others lead on; or the records end here.
+-- `true`: one record more was played, so where the records from the new place on lead, those from the old place on lead too.
+-- `false`: the records from the old place on lead from s to t and end there.
 abbrev pub LeadsOn : (A : Type 0) → Bool → Place → Place → View → State → State → Option ℕ → Type 0
 LeadsOn A true old new disk s t bad = (u : State) (last : Option ℕ) → LeadsFrom A new disk t u last → LeadsFrom A old disk s u last
 LeadsOn A false old new disk s t bad = LeadsFrom A old disk s t bad
@@ -68,7 +69,7 @@ LeadsOn A false old new disk s t bad = LeadsFrom A old disk s t bad
 abbrev pub CanRead : (A : Type 0) → Place → View → ℕ → Type 0
 CanRead A place disk n = AreReadable A place.form disk.reads place.end place.count place.next n
 
--- One record more can be read, and then the others; or none can.
+-- `true`: one record more can be read from the old place on than from the new one. `false`: none can be read from the old one.
 abbrev pub ReadsOn : (A : Type 0) → Bool → Place → Place → View → Type 0
 ReadsOn A true old new disk = (n : ℕ) → CanRead A new disk n → CanRead A old disk (n + 1)
 ReadsOn A false old new disk = CanRead A old disk 0
@@ -95,7 +96,8 @@ HasLater A place disk bad later = AreLater A place.form disk.reads place.end pla
 abbrev pub EndsAt : (A : Type 0) → Place → Place → View → Option Sector → Type 0
 EndsAt A old new disk bad = IfSome bad (λ at. (later : ℕ) → CanReadAfter A new disk at later → HasLater A old disk at later)
 
--- One record more was played, and the others go on; or the records end.
+-- `true`: one record more was played, so what `HasLater` states of the new place it states of the old one too. `false`: the
+-- records end, as `EndsAt` states.
 abbrev pub GoesOnOrEnds : (A : Type 0) → Bool → Place → Place → View → Option Sector → Type 0
 GoesOnOrEnds A true old new disk bad = (at : Sector) (later : ℕ) → HasLater A new disk at later → HasLater A old disk at later
 GoesOnOrEnds A false old new disk bad = EndsAt A old new disk bad
@@ -109,7 +111,7 @@ module _ (A : Type 0) (layout : Layout) (place : Side × Stated) (disk : View) w
       disk.honest → ReadsForm layout place.0 place.1.form disk
       → LeadsTo A (slot_form layout place.0 disk.reads) disk.reads (half_end layout place.0) place.1.header.count (half_at layout place.0) s t bad
 
-  -- and so many can be read after the one at which they end
+  -- as an honest disk reads, so many records of the side, in this form, can be read after the one at which its records end
   abbrev pub SideHasLater : Option Sector → ℕ → Type 0
   SideHasLater bad later =
       disk.honest → ReadsForm layout place.0 place.1.form disk → AreLaterIn A layout place.0 disk.reads place.1.header.count bad later

@@ -49,3 +49,8 @@ pub returns-clause-memory : goal.returns-clause-memory
 returns-clause-memory g c e honest =
     let syncs = c.in_ok-sync.ensures.effect honest in
     rw (syncs.reads, c.in_ok-sync.ensures.called.made) at (c.check_sides.ensures.memory e syncs.honest)
+
+pub returns-clause-gave_up : goal.returns-clause-gave_up
+returns-clause-gave_up g c at e honest =
+    let syncs = c.in_ok-sync.ensures.effect honest in
+    rw syncs.reads at (c.check_sides.ensures.gave_up at e syncs.honest)

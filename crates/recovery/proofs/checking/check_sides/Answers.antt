@@ -78,6 +78,11 @@ damage_of_a a told fault (inr (s, damage, found, none)) may at is =
     let same : s ≡ at = cc in
     subst (λ x. IsDamagedAt x a) same (is_there a s found)
 
+-- damage is reported only where memory ran out
+gives_up : (told fault : StoreFault) (d : Option ℕ) → IsReported told d fault → IsNoDamage fault → (at : ℕ) → told ≡ Damaged at → fault ≡ NoMemory
+gives_up told fault d (inl same) may at is = absurd (not_damage fault at may (sym same ∙ is))
+gives_up told fault d (inr (s, damage, found, none)) may at is = none
+
 -- ---- what a check of the image answers
 
 -- a state that was found on a disk that was only read
@@ -194,6 +199,23 @@ returns-in-Err-clause-memory g c e honest =
         earlier = two.calls;
         b = rw only_read.reads at (c.in-Err.ensures.memory (ap Err none.0) only_read.honest);
       });
+    }
+
+pub returns-in-Err-clause-gave_up : goal.returns-in-Err-clause-gave_up
+returns-in-Err-clause-gave_up g c at e honest =
+    let old : View = g.D.Disk.view c.args.disk.now in
+    let one : View = g.D.Disk.view c.read_layout.new.disk in
+    let two : View = g.D.Disk.view c.check_side.new.disk in
+    let first = c.in_ok-layout.ensures.reads.disk.only_read honest in
+    let only_read = only_read_on old one two first (c.in_ok-a.ensures.reads.disk.only_read first.honest) in
+    let is : c.unless_damaged.result ≡ Damaged at = cc in
+    let told = reported c.in_ok-a.a c.in-Err.fault c.damaged_sector.result c.damaged_sector.ensures c.unless_damaged.result c.unless_damaged.ensures in
+    let none = gives_up c.unless_damaged.result c.in-Err.fault (damaged_sector c.in_ok-a.a) told c.in-Err.ensures.reads.kinds at is in
+    record {
+      layout = c.in_ok-layout.layout;
+      label = c.in_ok-layout.ensures.exact honest;
+      earlier = two.calls;
+      b = rw only_read.reads at (c.in-Err.ensures.memory (ap Err none) only_read.honest);
     }
 
 pub returns-in-Err-clause-reported_on_disk : goal.returns-in-Err-clause-reported_on_disk

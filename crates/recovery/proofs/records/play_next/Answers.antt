@@ -50,7 +50,8 @@ returns-in_default-clause-exact g c honest =
     let old : View = g.D.Disk.view c.args.disk.now in
     let same = rw c.in_default.is at c.in_ok-at.ensures.moves.closed in
     let read = rw c.in_default.is at (c.in_ok-at.ensures.exact honest) in
-    rw same (plays_closed {A = g.row.A.Denot} c.args.journal.now.form c.args.journal.now.count old.reads c.args.journal.now.next c.args.journal.now.end c.requires.readable.before c.args.register.now read)
+    rw same (plays_closed {A = g.row.A.Denot} c.args.journal.now.form c.args.journal.now.count old.reads c.args.journal.now.next c.args.journal.now.end
+    c.requires.readable.before c.args.register.now read)
 
 pub returns-clause-exact : goal.returns-clause-exact
 returns-clause-exact g c honest =

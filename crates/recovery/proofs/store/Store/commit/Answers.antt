@@ -121,7 +121,12 @@ pub returns-in_err-outcomes-clause-refuses : goal.returns-in_err-outcomes-clause
 returns-in_err-outcomes-clause-refuses g c = record {
   broken = search rules;
   only_broken = search rules;
-  unready = search rules;
+  unready = λ sound some lacks.
+      absurd (omega (
+        arith,
+        lacks,
+        it_fits g.row.A.Denot c.args.self.now.journal c.args.commands.now (sym c.has_room.ensures.exact ∙ c.if-not-has_room.false),
+      ));
   only_unready = search rules;
   memory = search rules;
   fault = search rules;
@@ -190,7 +195,12 @@ pub returns-in_err-accepted-clause-refuses : goal.returns-in_err-accepted-clause
 returns-in_err-accepted-clause-refuses g c = record {
   broken = search rules;
   only_broken = search rules;
-  unready = search rules;
+  unready = λ sound some lacks.
+      absurd (omega (
+        arith,
+        lacks,
+        it_fits g.row.A.Denot c.args.self.now.journal c.args.commands.now (sym c.has_room.ensures.exact ∙ c.if-not-has_room.false),
+      ));
   only_unready = search rules;
   memory = search rules;
   fault = search rules;
@@ -387,7 +397,8 @@ invariant_of-self g c =
       end = self.end;
       next = self.next;
       counts = omega (arith, self.counts, c.apply_all.ensures.accepted.counted);
-      other = belongs_later self.layout self.side self.epoch self.journal self.register.count c.apply_all.new.register.count self.ongoing self.other (omega (arith, c.apply_all.ensures.accepted.counted));
+      other = belongs_later self.layout self.side self.epoch self.journal self.register.count c.apply_all.new.register.count self.ongoing self.other
+          (omega (arith, c.apply_all.ensures.accepted.counted));
       stored = in_call true refl;
     }
 
@@ -475,7 +486,8 @@ returns-in_err-keep-clause-on_disk g c =
       acknowledged = search rules;
       answered = search rules;
       unanswered =
-          let call : (g.D.Disk.view c.args.self.now.disk).honest → IsUnansweredCall g.row.A.Denot g.D.Disk.view (view_of c.args.self.now) (asked c.args.commands.now) (view_of c.keep.new.self) = λ honest.
+          let call : (g.D.Disk.view c.args.self.now.disk).honest → IsUnansweredCall g.row.A.Denot g.D.Disk.view (view_of c.args.self.now) (asked c.args.commands.now)
+          (view_of c.keep.new.self) = λ honest.
           is_unanswered g.row.A.Denot g.D.Disk.view (view_of c.args.self.now) (view_of c.keep.new.self) (asked c.args.commands.now) (c.keep.ensures.steps.honest honest)
           (any honest) (λ whole stored. absurd (true≢false (sym c.keep.ensures.steps.in_call ∙ whole))) c.if-self.false
           ((returns-in_err-keep-clause-calls g c).some_calls honest).0 ((returns-in_err-keep-clause-calls g c).some_calls honest).2 in

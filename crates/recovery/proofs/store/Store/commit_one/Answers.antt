@@ -129,7 +129,8 @@ pub returns-in_default-clause-on_disk : goal.returns-in_default-clause-on_disk
 returns-in_default-clause-on_disk g c = record {
   register = inl (c.in_default.ensures.err ∙ c.make_room.ensures.stays.same.1);
   any_moment = λ honest stored.
-      only_before g.row.A.Denot c.args.self.now.register c.apply.new.self (g.D.Disk.view c.args.self.now.disk) (g.D.Disk.view c.make_room.new.self.disk) (c.make_room.ensures.on_disk.any_moment honest stored);
+      only_before g.row.A.Denot c.args.self.now.register c.apply.new.self (g.D.Disk.view c.args.self.now.disk) (g.D.Disk.view c.make_room.new.self.disk)
+      (c.make_room.ensures.on_disk.any_moment honest stored);
   kept = λ sound honest stored. rw c.in_default.ensures.err (c.in_ok-make_room.ensures.on_disk.kept honest stored);
 }
 
@@ -212,7 +213,8 @@ keep-requires g c = record {
       let kept = c.if_accepted.result.now in
       let one = Replied c.in-Ok.reply ∷ [] in
       let ends = one_ends m t c.in-Ok.reply c.args.command.now c.in-Ok.ensures.ok c.args.command kept refl c.if_accepted.ensures in
-      counts_ongoing self.layout self.side self.epoch self.journal self.register.count t.count self.ongoing self.other (length kept) (omega (arith, ends_counted m t (c.args.command ∷ []) kept one ends));
+      counts_ongoing self.layout self.side self.epoch self.journal self.register.count t.count self.ongoing self.other (length kept)
+      (omega (arith, ends_counted m t (c.args.command ∷ []) kept one ends));
 }
 
 pub returns-in_err-keep-clause-on_disk : goal.returns-in_err-keep-clause-on_disk
