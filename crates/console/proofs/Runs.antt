@@ -5,7 +5,7 @@ use Rattle.console.specs.declared.running.RunFault.{RunFault}
 use Rattle.desk.specs.Rules.{Rules}
 use Rattle.console.specs.Events.{Event}
 use Rattle.console.specs.Runs.{IsRun}
-use Rattle.console.specs.Told.{Streams, Tells}
+use Rattle.console.specs.Told.{Streams, Tells, TellsWholeSince}
 use Rattle.console.specs.Reading.{Speaker}
 
 module _ (A : Type 0) {W : Type 0} (rules : Rules A W) (speaker : Speaker) (s t : W) (r : Result Ran RunFault) where
@@ -34,3 +34,12 @@ module _ (A : Type 0) {W : Type 0} (rules : Rules A W) (speaker : Speaker) (s : 
   told_left t passed held stands passes holds told =
       subst (λ (q : W × List Event × Option (List ℕ)). Tells A rules speaker s q.0 old (record { read = read; unread = unread; passed = q.1; held = q.2 }) r)
       (λ j. (stands j, passes j, holds j)) told
+
+-- what it answered whole, by the same
+module _ (A : Type 0) {W : Type 0} (rules : Rules A W) (speaker : Speaker) (s : W) (old : Streams) (read : List ℕ) (unread held : Option (List ℕ)) where
+  pub whole_left : (t : W) (passed : List Event) {t' : W} {passed' : List Event} → t ≡ t' → passed ≡ passed' →
+      TellsWholeSince A rules speaker s t old (record { read = read; unread = unread; passed = passed; held = held }) →
+      TellsWholeSince A rules speaker s t' old (record { read = read; unread = unread; passed = passed'; held = held })
+  whole_left t passed stands passes whole =
+      subst (λ (q : W × List Event). TellsWholeSince A rules speaker s q.0 old (record { read = read; unread = unread; passed = q.1; held = held }))
+      (λ j. (stands j, passes j)) whole

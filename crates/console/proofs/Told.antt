@@ -17,10 +17,11 @@ use Rattle.console.specs.Dialogue.{Dialogue}
 use Rattle.console.specs.Events.{Event, Read, ReadFailed, Answered, Wrote, WriteFailed, bytes_read, text_answered, bytes_written, read_by}
 use Rattle.console.specs.Events.{answered_by, written_by, read_failures, write_failures, OnlyAnswers}
 use Rattle.console.specs.Failures.{failures_reported}
-use Rattle.console.specs.Told.{EndsFor, EndsSince, GaveFirst, Tells}
+use Rattle.console.specs.Told.{EndsFor, EndsSince, GaveFirst, Tells, TellsWholeSince, reader_events, writer_events}
+use Rattle.console.specs.declared.passed.Passed.{Passed}
 use Rattle.console.specs.Runs.{Start, HasRun}
 use Rattle.console.specs.Inside.Passing.{Follows, Leaves, Passes, PassesPart, Sent}
-use Rattle.console.specs.Inside.Feed.{HasCalled, HasEnded}
+use Rattle.console.specs.Inside.Feed.{HasCalled, HasEnded, IsGoing, Reached}
 use Rattle.console.proofs.Answering.{never_memory, never_read}
 
 -- ---- only what waits is written
@@ -253,6 +254,30 @@ pub told_of : {A W : Type 0} (rules : Rules A W) (start : Start W) (begun now : 
     (record { read = all; unread = left; passed = now.events; held = now.bytes }) r
 told_of rules start begun now t r base given all left is first so = (given, so.0, is, first, so.1.0, so.1.1, so.2)
 
+-- between two lines all that was read to its last line feed is answered
+pub told_whole : {A W : Type 0} (rules : Rules A W) (start : Start W) (begun : Sent) (taken : List ℕ) (now : Reached A W) (base all : List ℕ) (left : Option (List ℕ)) →
+    all ≡ base ++ taken → IsGoing rules start begun taken now →
+    TellsWholeSince A rules start.speaker start.world now.world (record { read = base; unread = start.unread; passed = begun.events; held = begun.bytes })
+    (record { read = all; unread = left; passed = now.written.events; held = now.written.bytes })
+told_whole rules start begun taken now base all left is i =
+    let events = i.passed.events in
+    let given : answered_by events ≡ written_by events = balance [] [] events i.passed.only ∙ append-nil (written_by events) in (
+      taken,
+      events,
+      is,
+      i.passed.follows.0,
+      record {
+        done = i.done;
+        line = i.line;
+        answers = i.answers;
+        no_end = i.no_end;
+        split = i.split;
+        each = i.each;
+        written = sym given ∙ i.passed.answers;
+        given = given;
+      },
+    )
+
 -- ---- why a run ended
 
 -- one more call of the reader
@@ -284,7 +309,7 @@ module _ (turns : ℕ) (base old : List Event) (count : ℕ) (so : HasCalled bas
     record {
       few = omega (arith, length-append so.calls (ReadFailed ∷ []), so.counted, some);
       whole = tt;
-      read = λ failed. inl (omega (arith, read_failures-append so.calls (ReadFailed ∷ []), so.sound));
+      read = λ failed. inl (so.calls, refl, so.sound);
       sound = λ other. absurd (other refl);
       write = omega (arith, none, follows.2);
       memory = λ out. absurd cc;
@@ -301,7 +326,7 @@ module _ (turns : ℕ) (base old : List Event) (count : ℕ) (so : HasCalled bas
     record {
       few = omega (arith, so.counted, all);
       whole = tt;
-      read = λ failed. inr (so.counted ∙ all);
+      read = λ failed. inr (so.counted ∙ all, so.sound);
       sound = λ other. absurd (other refl);
       write = omega (arith, none, follows.2);
       memory = λ out. absurd cc;
@@ -338,3 +363,10 @@ ends_at_once turns called passed = (
   sym (append-nil passed),
   ends_without turns,
 )
+
+-- why a run ended in which this passed from the beginning
+pub ended_of : {I O : Type 0} (passed : Passed I O) (turns : ℕ) (called called_now given given_now : List Event) (r : Result Ran RunFault) → called ≡ [] → given ≡ [] →
+    called_now ≡ reader_events passed → given_now ≡ writer_events passed → EndsSince turns called called_now given given_now r → EndsFor turns (reader_events passed) (writer_events passed) r
+ended_of passed turns called called_now given given_now r uncalled ungiven calls gives so =
+    subst (λ (q : List Event × List Event). EndsFor turns q.0 q.1 r)
+    (λ i. ((sym (so.2 ∙ ap (λ l. l ++ so.0) uncalled) ∙ calls) i, (sym (so.3 ∙ ap (λ l. l ++ so.1) ungiven) ∙ gives) i)) so.4

@@ -10,10 +10,11 @@ use Rattle.console.specs.declared.running.Ran.{Ran}
 use Rattle.console.specs.declared.passed.Passed.{Passed}
 use Rattle.console.specs.declared.running.RunFault.{RunFault}
 use Rattle.console.specs.declared.running.RunFault.TheVariants as fault
+use Rattle.console.specs.declared.answer.Answer.{Answer}
 use Rattle.console.specs.Answer.{texts}
-use Rattle.console.specs.Reading.{Speaker}
-use Rattle.console.specs.Dialogue.{IsDialogue, IsCutOff}
-use Rattle.console.specs.Events.{Event, Read, read_by, answered_by, written_by, read_failures, write_failures, OnlyAnswers}
+use Rattle.console.specs.Reading.{Lacks, Speaker}
+use Rattle.console.specs.Dialogue.{Dialogue, IsDialogue, IsCutOff}
+use Rattle.console.specs.Events.{Event, Read, ReadFailed, read_by, answered_by, written_by, read_failures, write_failures, OnlyAnswers}
 use Rattle.console.specs.Failures.{failures_reported}
 
 -- the calls of the reader of an input
@@ -58,6 +59,17 @@ module _ (A : Type 0) {W : Type 0} (rules : Rules A W) (speaker : Speaker) (s t 
   abbrev pub TellsSome : Type 0
   TellsSome = (cut : IsCutOff A rules speaker s (lines input) (written_by events) t) × (missing : List Byte) × (texts (cut.answered ++ cut.last) ≡ answered_by events ++ missing)
 
+  -- every whole line of this input is answered, and every answer was written. Nothing is done of what comes after the last line feed
+  pub record TellsWhole : Type 0 where
+    pub done : List (List Byte)
+    pub line : List Byte
+    pub answers : List (Answer A)
+    pub no_end : Lacks 10 line
+    pub split : (rest : List Byte) → lines (input ++ rest) ≡ done ++ lines (line ++ rest)
+    pub each : Dialogue rules speaker 0 s done answers t
+    pub written : written_by events ≡ texts answers
+    pub given : answered_by events ≡ written_by events
+
   -- a run with this result read this input, and took the desk from s to t. What it wrote was answered before
   abbrev pub IsTold : Result Ran RunFault → Type 0
   IsTold result = OnlyAnswers events × IfOk result TellsAll × OnErr result TellsSome
@@ -69,13 +81,19 @@ Tells A rules speaker s t old new result = (given : List Byte) × (events : List
     × (new.passed ≡ old.passed ++ events) × HasTaken old.held events new.held
     × IsTold A rules speaker s t given events result
 
+-- the streams went from here to there, and the desk from s to t. Every whole line that was read is answered, and every answer was written
+abbrev pub TellsWholeSince : (A : Type 0) {W : Type 0} → Rules A W → Speaker → W → W → Streams → Streams → Type 0
+TellsWholeSince A rules speaker s t old new = (given : List Byte) × (events : List Event)
+    × (new.read ≡ old.read ++ given) × (new.passed ≡ old.passed ++ events) × TellsWhole A rules speaker s t given events
+
 -- why a run with this result ended. Given are the most calls of its reader, the calls that were made, and what passed by its writer
 pub record EndsFor (turns : ℕ) (calls events : List Event) (result : Result Ran RunFault) : Type 0 where
   pub few : length calls ≤ turns
   -- at Ok the text came to its end: the last call of the reader gave no bytes
   pub whole : IfOk result (λ ran. (before : List Event) × (calls ≡ before ++ Read [] ∷ []))
-  -- at Read the reader failed, or was called as often as it may be
-  pub read : IsErrOf result fault.Read → (read_failures calls ≡ 1) ⊎ (length calls ≡ turns)
+  -- at Read the last call of the reader failed, and no other; or it was called as often as it may be, and never failed
+  pub read : IsErrOf result fault.Read → ((before : List Event) × (calls ≡ before ++ ReadFailed ∷ []) × (read_failures before ≡ 0))
+      ⊎ ((length calls ≡ turns) × (read_failures calls ≡ 0))
   -- at any other result it never failed
   pub sound : (IsErrOf result fault.Read → ⊥) → read_failures calls ≡ 0
   -- the writer failed once at Write, and at any other result never

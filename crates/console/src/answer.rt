@@ -88,7 +88,8 @@ impl<B: Allocator> Answer<B> {
 }
 
 /// Adds the text of an answer: its lines with their ends, and nothing for [`Answer::Quiet`]. When memory runs
-/// out, `out` is unchanged. Room for 1,024 bytes is enough for any answer but a list.
+/// out, `out` is unchanged. Room for 1,024 bytes is enough for any answer but a list, a listing, the figures of a service, or a reply
+/// with a PDU of more than 2,048 bits.
 #[inline(always)]
 pub fn print_answer<A: Allocator, B: Allocator>(
     out: &mut Vec<u8, A>,

@@ -131,7 +131,7 @@ fn no_counts(alloc: Global, stations: usize) -> Result<Vec<StationCounts>, Alloc
 }
 
 impl ServiceFigures {
-    /// Those of a service that begins, over a store with these figures.
+    /// Those of a service that begins, over a store with these figures. Its clause speaks of the number of stations alone.
     pub fn new(alloc: Global, stations: usize, store: &StoreFigures) -> Result<Self, AllocError>
         ensures { IfOk result (λ figures. stations_of figures ≡ stations) }
     {

@@ -2,11 +2,12 @@
 ghost use Rattle.std.specs.Prelude.{◌≡◌, ◌⊎◌, IsErrOf, ◌≤◌, ◌<◌, ◌+◌, true};
 ghost use Rattle.console.specs.Failures.{failures_reported};
 ghost use Rattle.console.specs.Runs.{IsRun, speaker_of};
-ghost use Rattle.console.specs.Told.{EndsSince, Tells, calls_of, events_of, streams_of};
+ghost use Rattle.console.specs.Told.{EndsFor, EndsSince, Tells, TellsWholeSince, calls_of, events_of, reader_events, streams_of, writer_events};
 
 use crate::figures::ServiceFigures;
 use crate::input::Input;
 use crate::output::Output;
+use crate::passed::Passed;
 use crate::progress::Progress;
 use crate::serving::Run;
 use base::Steps;
@@ -27,10 +28,11 @@ pub struct Ran {
     pub troubled: bool,
 }
 
-/// Why a run ended before the end of its text. The lines that were answered stay done, and up to 64 lines at hand may be done.
+/// Why a run ended before the end of its text. The lines that were answered stay done. Where the writer failed, up to 64 more may be done.
 #[derive(Clone, Copy, Debug, PartialEq, Eq, Error)]
 pub enum RunFault {
-    /// The reader failed, or did not come to an end within `turns` calls.
+    /// The reader failed, or did not come to an end within `turns` calls. Every whole line that was read is answered. No clause of
+    /// [`run`] says so: those of [`run_counted`] do, and those of [`run_under`] say when this comes.
     #[error("the lines can't be read")]
     Read,
     /// The writer failed.
@@ -87,6 +89,9 @@ pub fn run_counted<
     // Over any reader and any writer: what was read, and what was written after it was answered.
     ensures told { Tells A D.rules (speaker_of terms) (D.world desk.old) (D.world desk.new)
         (streams_of R.remaining W.contents input.old output.old) (streams_of R.remaining W.contents input.new output.new) result }
+    // Where the reader failed, or was called as often as it may be, every whole line is answered.
+    ensures whole { IsErrOf result RunFault.Read → TellsWholeSince A D.rules (speaker_of terms) (D.world desk.old) (D.world desk.new)
+        (streams_of R.remaining W.contents input.old output.old) (streams_of R.remaining W.contents input.new output.new) }
     // Why it ended, by the calls of the reader and the writer.
     ensures ends { EndsSince terms.turns (calls_of input.old) (calls_of input.new) (events_of output.old) (events_of output.new) result }
     // How often the reader is called, and what each fault means.
@@ -135,7 +140,7 @@ fn run_in<
     reader: &mut R,
     writer: &mut W,
     desk: &mut D,
-) -> Result<Ran, RunFault>
+) -> (Result<Ran, RunFault>, Passed<R, W>)
     requires steps_name { blanks.steps.name ≡ L.name }
     requires steps_parts { blanks.steps.parts ≡ L.parts }
     requires steps_some { 0 < blanks.steps.parts }
@@ -147,7 +152,8 @@ fn run_in<
     requires failures_some { 0 < blanks.failures.parts }
     ensures answers { IsRun A D.rules
         (record { speaker = speaker_of terms; world = D.world desk.old; unread = R.remaining reader.old; written = W.contents writer.old })
-        (record { result = result; world = D.world desk.new; written = W.contents writer.new }) }
+        (record { result = result.0; world = D.world desk.new; written = W.contents writer.new }) }
+    ensures ends { EndsFor terms.turns (reader_events result.1) (writer_events result.1) result.0 }
 {
     let Blanks {
         steps,
@@ -159,26 +165,28 @@ fn run_in<
     let mut failures = Steps::<G>::new(failures);
     let mut input = Input::new(reader, &mut steps, &mut faults);
     let mut output = Output::new(writer, &mut failures);
-    run_counted(
+    let ran = run_counted(
         terms,
         &ServiceFigures::none(),
         &mut input,
         &mut output,
         desk,
-    )
+    );
+    (ran, Passed::by(input, output))
 }
 
-/// Answers all lines of the reader, or the first of them if it ends early, and writes nothing else. It does so by
-/// [`run_counted`], a clause of which states that the reader is called at most `turns` times.
+/// Answers all lines of the reader, or the first of them if it ends early, and writes nothing else. It returns the result with the
+/// calls of the reader and the writer: `ends` says by these why the run ended, and that the reader is called at most `turns` times.
 pub fn run_under<A: Allocator + Copy + Drop, R: Read, W: Write, D: Desk<A>>(
     terms: Terms<A>,
     reader: &mut R,
     writer: &mut W,
     desk: &mut D,
-) -> Result<Ran, RunFault>
+) -> (Result<Ran, RunFault>, Passed<R, W>)
     ensures answers { IsRun A D.rules
         (record { speaker = speaker_of terms; world = D.world desk.old; unread = R.remaining reader.old; written = W.contents writer.old })
-        (record { result = result; world = D.world desk.new; written = W.contents writer.new }) }
+        (record { result = result.0; world = D.world desk.new; written = W.contents writer.new }) }
+    ensures ends { EndsFor terms.turns (reader_events result.1) (writer_events result.1) result.0 }
 {
     let blanks = Blanks {
         steps: Blank::new(1),
@@ -188,7 +196,7 @@ pub fn run_under<A: Allocator + Copy + Drop, R: Read, W: Write, D: Desk<A>>(
     run_in::<Brand, Brand, Brand, A, R, W, D>(blanks, terms, reader, writer, desk)
 }
 
-/// As [`run_under`], where the station may give orders.
+/// As [`run_under`], where the station may give orders. No clause of `run` says why it ends: those of `run_under` and [`run_counted`] do.
 pub fn run<A: Allocator + Copy + Drop, R: Read, W: Write, D: Desk<A>>(
     alloc: A,
     reader: &mut R,
@@ -207,5 +215,6 @@ pub fn run<A: Allocator + Copy + Drop, R: Read, W: Write, D: Desk<A>>(
         orders: true,
         turns,
     };
-    run_under(terms, reader, writer, desk)
+    let (ran, _) = run_under(terms, reader, writer, desk);
+    ran
 }

@@ -8,7 +8,7 @@ ghost use Rattle.console.specs.Inside.Passing.{sent_by};
 ghost use Rattle.console.specs.Failures.{failures_reported};
 ghost use Rattle.console.specs.Inside.Current.{HasNoEnd, Holds, KeepsLine};
 ghost use Rattle.console.specs.Runs.{IsRun, speaker_of};
-ghost use Rattle.console.specs.Told.{EndsSince, Tells, calls_of, events_of, streams_of};
+ghost use Rattle.console.specs.Told.{EndsSince, Tells, TellsWholeSince, calls_of, events_of, streams_of};
 ghost use Rattle.console.specs.Dialogue.{Answers};
 ghost use Rattle.console.specs.declared.answer.Answer.{Answer};
 
@@ -300,6 +300,8 @@ impl<'t, 's, 'p, 'o, 'd, 'w, 'f, A: Allocator + Copy + Drop, W: Write, G: Ledger
             (outcome_at (reached_by D.world W.contents self.new) result) }
         ensures told { Tells A D.rules (speaker_of self.old.terms.now) (D.world self.old.desk.now) (D.world self.new.desk.now)
             (streams_of R.remaining W.contents input.old self.old.output.now) (streams_of R.remaining W.contents input.new self.new.output.now) result }
+        ensures whole { IsErrOf result RunFault.Read → TellsWholeSince A D.rules (speaker_of self.old.terms.now) (D.world self.old.desk.now) (D.world self.new.desk.now)
+            (streams_of R.remaining W.contents input.old self.old.output.now) (streams_of R.remaining W.contents input.new self.new.output.now) }
         ensures ends { EndsSince self.old.terms.now.turns (calls_of input.old) (calls_of input.new) (events_of self.old.output.now) (events_of self.new.output.now) result }
         ensures calls { input.new.steps.now ≤ input.old.steps.now + self.old.terms.now.turns }
         ensures read { IsErrOf result RunFault.Read

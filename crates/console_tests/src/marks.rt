@@ -17,7 +17,7 @@ fn answers(alloc: Global, orders: bool, lines: &str) -> Option<Vec<u8>> {
         orders,
         turns: 16,
     };
-    let ran = run_under(terms, &mut reader, &mut out, &mut register);
+    let (ran, _) = run_under(terms, &mut reader, &mut out, &mut register);
     drop(register);
     match ran {
         Ok(ran) if !ran.troubled => Some(out),

@@ -6,7 +6,7 @@ use Rattle.console.specs.Runs.{Start, speaker_of}
 use Rattle.console.specs.Told.{EndsSince, all_read, calls_of, events_of, streams_of}
 use Rattle.console.specs.Inside.Passing.{sent_by}
 use Rattle.console.proofs.Going.{short_at_once}
-use Rattle.console.proofs.Runs.{run_left, told_left}
+use Rattle.console.proofs.Runs.{run_left, told_left, whole_left}
 use Rattle.console.proofs.Told.{ends_at_once, has_run, still_passes, told_of}
 use Rattle.console.proofs.running.run_counted.Goals as goal
 
@@ -49,6 +49,16 @@ returns-clause-told g c =
     (streams_of g.R.Read.remaining g.W.Write.contents c.args.input.now c.args.output.now) (all_read c.take_all.new.input) (g.R.Read.remaining c.take_all.new.input.reader.now)
     (g.D.Desk.world c.take_all.new.self.desk.now) (events_of c.take_all.new.self.output.now) (g.W.Write.contents c.take_all.new.self.output.now.writer.now)
     (ap g.D.Desk.world (search rules)) (search rules) (ap g.W.Write.contents (search rules)) c.take_all.ensures.told
+
+pub returns-in_default-clause-whole : goal.returns-in_default-clause-whole
+returns-in_default-clause-whole g c = λ failed. absurd cc
+
+pub returns-clause-whole : goal.returns-clause-whole
+returns-clause-whole g c = λ failed.
+    whole_left g.row.A.Denot g.D.Desk.rules (speaker_of c.args.terms) (g.D.Desk.world c.args.desk.now)
+    (streams_of g.R.Read.remaining g.W.Write.contents c.args.input.now c.args.output.now) (all_read c.take_all.new.input) (g.R.Read.remaining c.take_all.new.input.reader.now)
+    (g.W.Write.contents c.take_all.new.self.output.now.writer.now) (g.D.Desk.world c.take_all.new.self.desk.now) (events_of c.take_all.new.self.output.now)
+    (ap g.D.Desk.world (search rules)) (search rules) (c.take_all.ensures.whole failed)
 
 pub returns-in_default-clause-ends : goal.returns-in_default-clause-ends
 returns-in_default-clause-ends g c = ends_at_once c.args.terms.turns (calls_of c.args.input.now) (events_of c.args.output.now)

@@ -1,8 +1,11 @@
-use Rattle.std.proofs.Common.{◌++◌, ◌≤◌, [], ◌∷◌, Err, length, take, sym, subst, refl, ap, ◌∙◌, arith}
+use Rattle.std.proofs.Common.{◌++◌, ◌≤◌, [], ◌∷◌, Err, Result, length, take, sym, subst, refl, ap, ◌∙◌, arith}
+use Rattle.std.specs.Prelude.{IsErrOf}
 use Rattle.std.proofs.lemmas.Grind.{common_steps}
 use Rattle.std.proofs.lemmas.List.{append-nil}
 use Rattle.std.proofs.lemmas.Result.{err_from_is_err_and}
 use Rattle.console.specs.declared.running.Piece.{Piece}
+use Rattle.console.specs.declared.running.Ran.{Ran}
+use Rattle.console.specs.declared.running.RunFault.{RunFault}
 use Rattle.console.specs.declared.running.RunFault.TheVariants.{Read}
 use Rattle.console.specs.Events as event
 use Rattle.console.specs.Told.{all_read, calls_of}
@@ -12,7 +15,7 @@ use Rattle.console.proofs.Answering.{never_read, never_memory}
 use Rattle.console.proofs.Writing.{at_the_end, passed_on}
 use Rattle.console.proofs.Going.{going_start, short_between, still_same}
 use Rattle.mailbox.proofs.Results.{known_ok}
-use Rattle.console.proofs.Told.{ends_failed, ends_out, ends_read, has_called, has_run, read_failed, read_more, still_passes, told_by, told_of}
+use Rattle.console.proofs.Told.{ends_failed, ends_out, ends_read, has_called, has_run, read_failed, read_more, still_passes, told_by, told_of, told_whole}
 use Rattle.console.proofs.serving.Run.take_all.Goals as goal
 
 pub loop-init : goal.loop-init
@@ -174,6 +177,31 @@ returns-clause-told g c =
     (λ input known. let left = so.2 input known in (left.0, left.2))
     (told_by g.D.Desk.rules start begun (so.0 ++ []) so.0 now t (Err Read) (Err Read) (append-nil so.0) refl
     (short_between g.D.Desk.rules start begun so.0 [] _ Read so.3))
+
+pub returns-in_err-read-clause-whole : goal.returns-in_err-read-clause-whole
+returns-in_err-read-clause-whole g c = λ failed.
+    let start = start_at (reached_by g.D.Desk.world g.W.Write.contents c.args.self.now) (g.R.Read.remaining c.args.input.now.reader.now) in
+    let begun = sent_by g.W.Write.contents c.args.self.now.output.now in
+    let so = c.loop.invariant.3 in
+    told_whole g.D.Desk.rules start begun so.0 (reached_by g.D.Desk.world g.W.Write.contents c.loop.self) (all_read c.args.input.now) (all_read c.read.new.self)
+    (g.R.Read.remaining c.read.new.self.reader.now) (read_failed c.loop.input.events.list c.read.new.self.events.list c.in_err-read.ensures.noted ∙ so.1) so.3
+
+pub returns-clause-whole : goal.returns-clause-whole
+returns-clause-whole g c = λ failed.
+    let start = start_at (reached_by g.D.Desk.world g.W.Write.contents c.args.self.now) (g.R.Read.remaining c.args.input.now.reader.now) in
+    let begun = sent_by g.W.Write.contents c.args.self.now.output.now in
+    let so = c.loop.invariant.3 in
+    told_whole g.D.Desk.rules start begun so.0 (reached_by g.D.Desk.world g.W.Write.contents c.loop.self) (all_read c.args.input.now) (all_read c.loop.input)
+    (g.R.Read.remaining c.loop.input.reader.now) so.1 so.3
+
+pub returns-in-End-clause-whole : goal.returns-in-End-clause-whole
+returns-in-End-clause-whole g c = λ failed. absurd (never_read c.finish.result c.finish.ensures.stops failed)
+
+pub returns-in_err-take_piece-in-Bytes-clause-whole : goal.returns-in_err-take_piece-in-Bytes-clause-whole
+returns-in_err-take_piece-in-Bytes-clause-whole g c = λ failed.
+    let p = err_from_is_err_and c.from_residual-in_err-take_piece-in-Bytes.result c.from_residual-in_err-take_piece-in-Bytes.ensures.1 in
+    absurd (never_read {T = Ran} (Err c.in_err-take_piece-in-Bytes.field-0.0) c.in_err-take_piece-in-Bytes.ensures.stops
+    (subst (λ (r : Result Ran RunFault). IsErrOf r Read) (p.1 ∙ ap Err p.2) failed))
 
 pub returns-in-End-clause-read : goal.returns-in-End-clause-read
 returns-in-End-clause-read g c = λ failed. absurd (never_read c.finish.result c.finish.ensures.stops failed)
