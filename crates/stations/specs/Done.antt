@@ -37,9 +37,9 @@ module _ (J : Type 0) (base : State) where
       (record { speaker = speaker; world = record { station = speaker.station; view = s }; unread = unread; written = written })
       (record { result = ran; world = record { station = speaker.station; view = t }; written = after })
 
-  -- What was told in that run, whatever the reader and the writer are. Given is what passed in it: the bytes that were read are those that the
-  -- calls of its reader gave, and what was written after it was answered is what passed by its writer. If the bytes of the reader or of the
-  -- writer are known, these are the first of them, or follow them.
+  -- What is told of a run (`IsRunOf`), whatever the reader and the writer are. Given is what passed in it: the bytes that were
+  -- read are those that the calls of its reader gave, and what was written after it was answered is what passed by its writer.
+  -- If the bytes of the reader or of the writer are known, these are the first of them, or follow them.
   abbrev pub IsToldOf : {I O : Type 0} → Speaker → Option (List Byte) → Option (List Byte) → Passed I O → SessionView → SessionView → Option (List Byte) → Result Ran RunFault → Type 0
   IsToldOf speaker unread written passed s t after ran =
       GaveFirst unread (read_by (reader_events passed)) × HasTaken written (writer_events passed) after

@@ -21,8 +21,8 @@ module _ {J : Type 0} where
   abbrev pub beginning_of : Session J → Beginning
   beginning_of s = record { sender = s.sender; receiver = s.receiver; seen = s.viewer }
 
-  -- It is the session that began so: it has the same station, queue and channel, and what was seen then is a prefix of what is seen. It has
-  -- submitted no order since, if its station may give none.
+  -- The session has the station, queue and channel that it had at this beginning, and what was seen then is a prefix of what is
+  -- seen. It has submitted no order since, if its station may give none.
   pub record GoesOnFrom (may_order : Bool) (b : Beginning) (s : Session J) : Type 0 where
     pub queue : s.sender.queue ≡ b.sender.queue
     pub station : s.sender.station ≡ b.sender.station

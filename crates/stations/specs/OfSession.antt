@@ -5,7 +5,7 @@ use mathlib.Core.List.{IsPrefix}
 use Rattle.registration.specs.Numbers.{Station}
 use Rattle.centre_core.specs.Asked.{Asked}
 use Rattle.centre_core.specs.State.{State}
-use Rattle.centre_core.specs.History.{after}
+use Rattle.centre_core.specs.History.{after, is_acceptance}
 use Rattle.centre_core.specs.Queries.{answer_to, AsksForList}
 use Rattle.centre_core.specs.declared.reply.Reply.{Reply}
 use Rattle.centre_core.specs.declared.reply.Reply.TheVariants as reply
@@ -53,6 +53,20 @@ module _ {J : Type 0} where
   result_of (answer.Fault f) = Err (word_of f)
   result_of answer.Closed = Err Closed
 
+-- a command is answered so once the device has failed
+abbrev pub is_failure : Result (Reply Global) Outage → Bool
+is_failure (Ok replied) = false
+is_failure (Err Memory) = false
+is_failure (Err Device) = true
+is_failure (Err Broken) = true
+is_failure (Err Epochs) = false
+is_failure (Err Closed) = false
+
+-- the answer accepts its command as a new one
+abbrev pub accepts : Result (Reply Global) Outage → Bool
+accepts (Ok replied) = is_acceptance replied
+accepts (Err word) = false
+
 -- the command was submitted, and its answer gives this result
 pub record IsSubmitted (J : Type 0) (base : State) (s : AtSession) (c : Asked Global) (result : Result (Reply Global) Outage) (t : AtSession) : Type 0 where
   pub answer : Answer J
@@ -68,7 +82,7 @@ abbrev pub IsForbidden : Bool → AtSession → Asked Global → Result (Reply G
 IsForbidden may_order s c result t = (is_allowed may_order c ≡ false) × (result ≡ Err Closed) × (t ≡ s)
 
 -- The result of a query. It is what the register answers after all that is seen now, which begins with all that was seen before. Or
--- memory ran out for a list. Or the published copy could not be entered, and no more is seen.
+-- memory ran out for a list. Or it is `closed`, and no more is seen.
 abbrev pub AnswersAfter : State → List (Asked Global) → Query → Result (QueryAnswer Global) Outage → List (Asked Global) → Type 0
 AnswersAfter base old q (Ok query_answer) new = (query_answer ≡ answer_to (after base new) q) × IsPrefix old new
 AnswersAfter base old q (Err Memory) new = AsksForList q × IsPrefix old new
@@ -77,8 +91,8 @@ AnswersAfter base old q (Err Device) new = ⊥
 AnswersAfter base old q (Err Broken) new = ⊥
 AnswersAfter base old q (Err Epochs) new = ⊥
 
--- The register that is read for a listing. It is the one after all that is seen now, which begins with all that was seen before. Or the
--- published copy could not be entered, and no more is seen. It has no other outage word.
+-- The register that is read for a listing. It is the one after all that is seen now, which begins with all that was seen before. Or it is
+-- `closed`, and no more is seen. It has no other outage word.
 abbrev pub ReadsAfter : State → List (Asked Global) → Result State Outage → List (Asked Global) → Type 0
 ReadsAfter base old (Ok r) new = (r ≡ after base new) × IsPrefix old new
 ReadsAfter base old (Err Closed) new = new ≡ old

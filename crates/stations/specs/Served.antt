@@ -48,10 +48,10 @@ use Rattle.stations.specs.declared.station_run.StationRun.{StationRun}
 abbrev pub new_view : SessionView
 new_view = record { sent = []; received = []; seen = []; reached = 0 }
 
--- What the session of a station has to do with the commands that are durable in the end. Each answer that it received is borne out by a
--- prefix of them, and no such prefix is shorter than the one before it. So is the answer to each command in its lines, however they were
--- answered to come to this session. Those of its own station are some of those that it sent, in the same order. What it has seen is a
--- prefix of them.
+-- What the session of a station has to do with the commands that are durable in the end. Each answer that it received is borne
+-- out by a prefix of them, and no such prefix is shorter than the one before it. If answered lines lead from a new session to
+-- this one, the answer to each command in them is borne out in this way too. The durable commands of its own station are some
+-- of those that it sent, in the order in which it sent them. What it has seen is a prefix of the durable ones.
 pub record IsBorneOut (J : Type 0) (base : State) (durable : List (Asked Global)) (speaker : Speaker) (view : SessionView) : Type 0 where
   pub answers : AreBorneOut base durable 0 view.received
   pub lines : (texts : List (List Byte)) (given : List (Answer Global))
@@ -127,8 +127,8 @@ pub record HasServed {D I O : Type 0} (disk : D → View) (J : Type 0) (base : S
   pub each : (k : ℕ) (port : Port I O) (run : StationRun I O) (view : SessionView)
       → slice_get ports k ≡ Some port → slice_get runs k ≡ Some run → slice_get views k ≡ Some view
       → IsRunOf J base (speaker_at orders k) (unread port.reader) (written port.writer) new_view view (written run.writer) run.ran
-  -- why each run ended: its text came to its end, its reader failed or was called as often as it may be, its writer failed, or memory ran out
-  -- before the first call. Its reader and its writer failed in no other run
+  -- why each run ended: its text came to its end, its reader failed or was called as often as it may be, its writer failed, or it was given
+  -- up as out of memory before the first call, also where no thread could be made. Its reader and its writer failed in no other run
   pub ends : (k : ℕ) (run : StationRun I O) → slice_get runs k ≡ Some run → EndsFor turns (reader_events run.passed) (writer_events run.passed) run.ran
   -- a run that was out of memory came to no line: its session had sent, received and seen nothing
   pub memory : (k : ℕ) (run : StationRun I O) (view : SessionView) → slice_get runs k ≡ Some run → slice_get views k ≡ Some view → IsErrOf run.ran fault.NoMemory → view ≡ new_view

@@ -66,7 +66,8 @@ fn drop_added(out: &mut Vec<u8, Global>, size: usize, room: usize)
     out.shrink_to(room);
 }
 
-// The same by the station whose turn it is. If the text of a table may not be kept, it is out of memory.
+// Adds the text of a listing of the register that the session reads, in this turn of its station. If the text of a table may
+// not be kept, it is dropped, and the result is `Memory` (tested).
 fn list_in_turn<K: Began, J: Centre, R: Wait>(
     turn: &Turn<'_>,
     text: &StationText<'_, '_, R>,

@@ -30,7 +30,9 @@ struct Unwritten {
 
 impl Unwritten {
     // None yet.
-    fn new() -> Unwritten {
+    fn new() -> Unwritten
+        ensures { (result.texts ≡ 0) × (result.bytes ≡ 0) × (result.longest ≡ 0) }
+    {
         Unwritten {
             texts: 0,
             bytes: 0,
@@ -64,7 +66,8 @@ impl Unwritten {
         ensures may { IsTrue result ↔ MayKeep self.old.texts self.old.bytes }
         ensures counted { result ≡ true
             → (self.new.texts ≡ min (self.old.texts + 1) (2 ^ 64 - 1)) × (self.new.bytes ≡ min (self.old.bytes + bytes) (2 ^ 64 - 1)) }
-        ensures same { result ≡ false → (self.new.texts ≡ self.old.texts) × (self.new.bytes ≡ self.old.bytes) }
+        ensures longest { result ≡ true → self.new.longest ≡ max self.old.longest bytes }
+        ensures same { result ≡ false → (self.new.texts ≡ self.old.texts) × (self.new.bytes ≡ self.old.bytes) × (self.new.longest ≡ self.old.longest) }
     {
         if !self.has_room() {
             return false;

@@ -251,10 +251,10 @@ fn service_of(
 /// its station, beside one flusher in this thread. The call returns once each has ended.
 ///
 /// A run that ends before its reader's last line ends for its station alone. If no thread can be made for a station, its run ends out of
-/// memory before its first line.
+/// memory before its first line (tested).
 ///
-/// `NoPlace` comes exactly if the number of ports is not from 1 to the register's limit of stations. All memory that the run keeps is
-/// taken before the first thread begins; with `NoMemory` the store comes back as it was.
+/// `NoPlace` comes exactly if the number of ports is not from 1 to the register's limit of stations. This call's own `NoMemory` comes
+/// before the first thread, and the store then comes back as it was. A station's run takes its memory in its thread.
 pub fn run_many<
     J: Centre + Send + Sync,
     D: Disk + Drop,

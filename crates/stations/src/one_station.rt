@@ -64,7 +64,7 @@ pub fn run_session<
     run_begun::<Brand, J, R, V, I, O, L, F, G>(serving, input, output, session)
 }
 
-// The same, where `K` says what the session was when its run began.
+// Answers the lines of a station as `run_session` does. `K` states what the session was when its run began.
 fn run_begun<
     K: Began,
     J: Centre,

@@ -5,6 +5,6 @@
 pub struct Port<I: Drop, O: Drop> {
     /// What its lines are read from.
     pub reader: I,
-    /// What its answers are written to. Each answer is flushed before the station's next line is served.
+    /// What its answers are written to. The answers to the lines of one read are flushed before the next read (tested).
     pub writer: O,
 }

@@ -7,7 +7,7 @@ ghost use Rattle.desk.specs.Rules.{AreApplied};
 ghost use Rattle.flusher.specs.Sessions.{HasOnlyRead};
 ghost use Rattle.flusher.specs.Submitted.{HasShortAnswer};
 ghost use Rattle.stations.specs.Inside.Kept.{KeepsSession};
-ghost use Rattle.stations.specs.OfSession.{AtSession, Applies, Answers, at_session, of_session, result_of, word_of};
+ghost use Rattle.stations.specs.OfSession.{AtSession, Applies, Answers, accepts, at_session, is_failure, of_session, result_of, word_of};
 ghost use Rattle.stations.specs.Orders.{is_allowed};
 
 use crate::listing::list;
@@ -104,11 +104,10 @@ impl<'r, 'w, 't, K: Began, J: Centre, R: Wait, V: Watch> SessionDesk<'r, 'w, 't,
         if let Ok(reply) = replied {
             counts.add(reply);
         }
-        if matches!(replied, Err(Outage::Device | Outage::Broken)) {
+        if is_failure(replied) {
             self.watch.failed(station);
         }
-        let accepted = matches!(replied, Ok(reply) if reply.is_acceptance());
-        self.watch.answered(station, accepted);
+        self.watch.answered(station, accepts(replied));
     }
 
     /// The session.
@@ -117,6 +116,27 @@ impl<'r, 'w, 't, K: Began, J: Centre, R: Wait, V: Watch> SessionDesk<'r, 'w, 't,
         ensures goes_on { GoesOn K.may_order K.began result }
     {
         self.session
+    }
+}
+
+// Whether a command is answered so once the device has failed.
+fn is_failure(replied: &Result<Reply<Global>, Outage>) -> bool
+    ensures { result ≡ is_failure replied.now }
+{
+    match replied {
+        Err(Outage::Device) => true,
+        Err(Outage::Broken) => true,
+        _ => false,
+    }
+}
+
+// Whether the answer accepts its command as a new one.
+fn accepts(replied: &Result<Reply<Global>, Outage>) -> bool
+    ensures { result ≡ accepts replied.now }
+{
+    match replied {
+        Ok(reply) => reply.is_acceptance(),
+        Err(_) => false,
     }
 }
 

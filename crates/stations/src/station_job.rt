@@ -1,5 +1,5 @@
 //! What the thread of a station does.
-ghost use Rattle.std.specs.Prelude.{◌≡◌};
+ghost use Rattle.std.specs.Prelude.{◌≡◌, ◌==◌};
 ghost use Rattle.stations.specs.Done.{IsDone};
 ghost use Rattle.stations.specs.Inside.Answered.{AnswersJob, AnswersLines};
 ghost use Rattle.stations.specs.Inside.Ledgers.{MakesLedger};
@@ -146,8 +146,15 @@ impl<'r, 'w, R: Wait, V: Watch> Shared<'r, 'w, R, V> {
 
     // Whether this station is the one noted.
     fn is_refused(&self, station: Station) -> bool {
-        self.refused.load(Ordering::SeqCst) == u64::from(station.number())
+        is_noted(self.refused.load(Ordering::SeqCst), station)
     }
+}
+
+// Whether this number, which was noted, is that of the station.
+fn is_noted(noted: u64, station: Station) -> bool
+    ensures { result ≡ (noted == station) }
+{
+    noted == u64::from(station.number())
 }
 
 // Answers the lines of a station. If no thread could be made for it, its run ends out of memory before its first line.
@@ -166,7 +173,8 @@ fn run_station<J: Centre, R: Wait + Clock, V: Watch, I: Read, O: Write>(
     answer_lines(serving, reader, writer, session)
 }
 
-// The same over a port. What came of the run is returned with its writer. A text that was not written to its end counts no more.
+// Answers the lines of a job's port, as `run_station` does. What came of the run is returned with its writer. A text that was
+// not written to its end counts no more.
 fn run_port<J: Centre, R: Wait + Clock, V: Watch, I: Read + Drop, O: Write + Drop>(
     shared: &Shared<R, V>,
     job: Job<J, I, O>,

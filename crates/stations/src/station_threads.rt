@@ -128,7 +128,7 @@ fn end<J: Centre, R: Threads, I: Read + Drop, O: Write + Drop>(
     }
 }
 
-// The same of each, in order.
+// What came of each station, in order, once its thread has returned.
 fn end_all<J: Centre, R: Threads, I: Read + Drop, O: Write + Drop>(
     rt: &R,
     begun: Vec<Begun<J, I, O>>,
@@ -181,7 +181,7 @@ fn serve_in<
     end_all(shared.rt, begun, room.done)
 }
 
-// The same of a flusher that is passed by value.
+// Begins each job, flushes and ends all threads, as `serve_in` does, with a flusher that is passed by value.
 fn serve_held<
     's,
     'r,

@@ -2,12 +2,20 @@
 //! register that is kept on a disk. It reads the words of its command line, opens the files that these name, and leaves all rules to the crates below.
 #![tactic(auto)]
 
-ghost use Rattle.std.specs.Prelude.{◌≡◌, ◌≤◌, IfOk, OnOk, false, length};
+ghost use Rattle.std.specs.Prelude.{◌≡◌, ◌≤◌, ◌⊎◌, ◌-◌, ◌^◌, Err, IfErr, IfOk, IsErrAnd, MatchResult, Ok, OnOk, Some, codes, cond, false, length, slice_get, true, ℕ};
+ghost use Rattle.console.specs.Told.{EndsFor, reader_events, writer_events};
+ghost use Rattle.registration.specs.Numbers.{Station as StationNumber};
+ghost use Rattle.file_disk.specs.declared.fault.OpenCause.TheVariants.{Other};
+ghost use Rattle.served_disk.specs.declared.fault.Fault.TheVariants.{Device, Memory};
+ghost use Rattle.served_disk.specs.Faults.{Names};
+ghost use Rattle.served_disk.specs.Stations.{HaveEnded};
+ghost use Rattle.stations.specs.declared.station_run.StationRun.{StationRun};
+ghost use Rattle.stations.specs.Orders.{may, may_by};
 
 use centre_core::Register;
 use checkpoint::Layout;
 use command_line::{Refusal, Request, read_command_line};
-use console::{RunFault, run};
+use console::{RunFault, Terms, run_under};
 use file_disk::{FileDisk, HostFile, OpenCause};
 use recovery::Store;
 use registration::{Limits, Station};
@@ -171,7 +179,9 @@ fn print_refusal(rt: &HostRuntime, refusal: &Refusal) -> ExitCode {
 }
 
 /// The exit status of a request that was carried out: 1 if an answer reported trouble, else 0.
-fn status_of<'a>(ended: Result<bool, Fault<'a>>) -> Result<u8, Fault<'a>> {
+fn status_of<'a>(ended: Result<bool, Fault<'a>>) -> Result<u8, Fault<'a>>
+    ensures { MatchResult ended.entry (λ troubled. result ≡ Ok (cond troubled 1 0)) (λ fault. result ≡ Err fault) }
+{
     ended.map(u8::from)
 }
 
@@ -201,14 +211,13 @@ fn serve_memory<'a>(rt: &HostRuntime) -> Result<bool, Fault<'a>> {
     let mut desk = WatchedDesk::new(register, station, &progress);
     let mut reader = WatchedReader::new(rt.stdin(), station, &progress);
     let mut writer = io::writer(rt);
-    let ended = run(
-        rt.alloc(),
-        &mut reader,
-        &mut writer,
+    let terms = Terms {
+        alloc: rt.alloc(),
         station,
-        TURNS,
-        &mut desk,
-    );
+        orders: true,
+        turns: TURNS,
+    };
+    let (ended, _) = run_under(terms, &mut reader, &mut writer, &mut desk);
     progress.end(0, &ended);
     progress.finish();
     match ended {
@@ -301,7 +310,10 @@ fn print_rest<'a>(rt: &HostRuntime, disk: &'a str) -> Result<u8, Fault<'a>> {
 }
 
 /// The result of a request whose answer was printed, or could not be.
-fn printed<'a>(written: io::Result<()>, troubled: bool) -> Result<bool, Fault<'a>> {
+fn printed<'a>(written: io::Result<()>, troubled: bool) -> Result<bool, Fault<'a>>
+    ensures value { IfOk result (λ value. value ≡ troubled) }
+    ensures cases { MatchResult written (λ _. result ≡ Ok troubled) (λ _. IsErrAnd result (λ fault. Names fault (codes "-") Other)) }
+{
     match written {
         Ok(()) => Ok(troubled),
         Err(_) => Err(Fault::File("-", OpenCause::Other)),
@@ -337,7 +349,9 @@ struct ServedDisk<'a, 'o> {
     syncs: &'o AtomicU64,
 }
 
-fn target_of<'a, 'o>(disk: &'a str, orders: &'o [u16], syncs: &'o AtomicU64) -> ServedDisk<'a, 'o> {
+fn target_of<'a, 'o>(disk: &'a str, orders: &'o [u16], syncs: &'o AtomicU64) -> ServedDisk<'a, 'o>
+    ensures { result.orders ≡ orders.entry }
+{
     ServedDisk {
         disk,
         orders,
@@ -349,7 +363,10 @@ fn target_of<'a, 'o>(disk: &'a str, orders: &'o [u16], syncs: &'o AtomicU64) -> 
 type ServedFile<'s> = SyncedDisk<'s, FileDisk<HostFile>>;
 
 /// What a run of stations over this disk is given.
-fn terms_of<'o>(alloc: Global, target: ServedDisk<'_, 'o>) -> ManyTerms<'o> {
+fn terms_of<'o>(alloc: Global, target: ServedDisk<'_, 'o>) -> ManyTerms<'o>
+    ensures orders { (station : StationNumber) → may result.orders station ≡ may_by target.entry.orders.now station }
+    ensures turns { result.turns ≡ 2 ^ 32 - 1 }
+{
     ManyTerms {
         alloc,
         orders: Orders::by(target.orders),
@@ -402,7 +419,12 @@ fn serve_ports<
     watch: &V,
 ) -> Result<Served<I, O>, Fault<'a>>
     requires sound { store.broken ≡ false }
-    ensures { IfOk result (λ served. length served.runs.items ≡ length ports.items) }
+    ensures all { IfOk result (λ served. length served.runs.items ≡ length ports.items) }
+    ensures fault { IfErr result (λ fault. fault ≡ Memory) }
+
+    // Why each run ended.
+    ensures ends { IfOk result (λ served. (k : ℕ) (run : StationRun I O) → slice_get served.runs.items k ≡ Some run
+        → EndsFor terms.entry.turns (reader_events run.passed) (writer_events run.passed) run.ran) }
 {
     serve_stations::<Brand, ServedFile<'_>, R, I, O, V>(rt, terms, store, ports, watch)
 }
@@ -416,6 +438,10 @@ fn report<'a, R: Clock + Print + Eprint, I>(
 ) -> Result<bool, Fault<'a>>
     requires same { length names.now ≡ length served.now.runs.items }
     requires few { length names.now ≤ 64 }
+    ensures sound { OnOk result (served.now.is_broken ≡ false) }
+    ensures broken { served.now.is_broken ≡ true → result ≡ Err Device }
+    ensures ended { IfOk result (λ troubled. HaveEnded names.now served.now.runs.items (Ok troubled)) }
+    ensures fault { IfErr result (λ fault. (fault ≡ Device) ⊎ HaveEnded names.now served.now.runs.items (Err fault) ⊎ Names fault (codes "-") Other) }
 {
     for index in 0..served.runs.len() {
         progress.end(index, &served.runs[index].ran);
@@ -507,6 +533,7 @@ fn serve_pairs<'a, R: Threads + Wait + Sync + Clock + Eprint>(
 /// How many commands the register of a store has accepted.
 fn count_of(store: &Store<Global, ServedFile<'_>>) -> u64
     requires sound { store.now.broken ≡ false }
+    ensures { result ≡ store.now.register.count }
 {
     store.register().unwrap().count()
 }
