@@ -1,6 +1,7 @@
 -- What a check says of a disk, for what is left of it.
-use Rattle.std.proofs.Common.{◌≡◌, ◌≤◌, Bool, List, ℕ, Option, Some, MatchOption, Result, Ok, Err, ap, inl, inr, refl, subst}
+use Rattle.std.proofs.Common.{◌≡◌, ◌≤◌, Bool, List, ℕ, Option, Some, MatchOption, Result, Ok, Err, ap, inl, inr, refl, subst, sym}
 use Rattle.sector_disk.specs.Disk.{View}
+use Rattle.checkpoint.specs.declared.layout.Layout.{Layout}
 use Rattle.recovery.specs.declared.checking.Checked.{Checked}
 use Rattle.recovery.specs.declared.rest.Rest.{Rest}
 use Rattle.recovery.specs.declared.fault.StoreFault.{StoreFault}
@@ -12,7 +13,7 @@ use Rattle.recovery.specs.Opens.{opens, ◌>>=◌}
 use Rattle.recovery.specs.Rests.{AreLaterOnDisk, HasNoRest, IsRestOf}
 use Rattle.served_disk.specs.declared.dumping.DiskDumpFault.{DiskDumpFault}
 use Rattle.served_disk.specs.declared.dumping.DiskDumpFault.TheVariants as dump
-use Rattle.served_disk.specs.Rests.{HasNoRestText, IsRestReportedOn, IsRestText, line_of, line_of_found, without_damage}
+use Rattle.served_disk.specs.Rests.{HasNoRestText, IsLabelled, IsRestRefused, IsRestReportedOn, IsRestText, line_of, line_of_found, without_damage}
 use Rattle.served_disk.proofs.Reasons.{has_failed}
 
 -- what is said of a value that is there
@@ -38,6 +39,16 @@ module _ {X Y : Type 0} where
   first_fails f first NoMemory may is = tt
   first_fails f first EpochsUsedUp may is = absurd may
   first_fails f first Unready may is = absurd may
+
+  -- what is read first is there, if the rest is
+  first_is : (f : X → Y) (first : Result X StoreFault) (y : Y) → (first >>= (λ x. Ok (f x))) ≡ Ok y → (x : X) × (first ≡ Ok x)
+  first_is f (Ok x) y is = (x, refl)
+  first_is f (Err e) y is = absurd (not_both Y y e (sym is))
+
+-- a disk that can be checked has a layout
+pub labelled : (A : Type 0) (image : List (List ℕ)) (checked : Checked) → checked_in A image ≡ Ok checked → (layout : Layout) × (layout_in image ≡ Ok layout)
+unfolding checked_in
+labelled A image checked is = first_is _ (layout_in image) checked is
 
 -- a disk without a layout can't be checked
 no_layout : (A : Type 0) (image : List (List ℕ)) (fault : StoreFault) → IsNoDamage fault → Fails fault (checked_in A image) → Fails fault (layout_in image)
@@ -78,6 +89,19 @@ unchecked A image Broken may is = absurd may
 unchecked A image NoMemory may is = tt
 unchecked A image EpochsUsedUp may is = absurd may
 unchecked A image Unready may is = absurd may
+
+-- out of memory, also for a check that found damage, hides no missing layout
+pub has_label : (A : Type 0) (image : List (List ℕ)) (fault : StoreFault) → IsCheckOf A image (Err fault)
+    → (◌≡◌ {A = Result Checked StoreFault} (Err fault) (Err NoMemory) → (layout : Layout) × (layout_in image ≡ Ok layout))
+    → without_damage fault ≡ NoMemory → (layout : Layout) × (layout_in image ≡ Ok layout)
+has_label A image (Damaged at) is met same = labelled A image is.0 is.1
+has_label A image NoMemory is met same = met refl
+has_label A image Unformatted is met same = absurd cc
+has_label A image BadGeometry is met same = absurd cc
+has_label A image DiskFault is met same = absurd cc
+has_label A image Broken is met same = absurd cc
+has_label A image EpochsUsedUp is met same = absurd cc
+has_label A image Unready is met same = absurd cc
 
 -- it is the device's only if that failed
 pub of_device : (fault : StoreFault) → without_damage fault ≡ DiskFault → fault ≡ DiskFault
@@ -135,15 +159,18 @@ module _ (A : Type 0) (old mid : View) (goes : old.honest → mid.honest) (same 
     })
 
 pub why_before : (A : Type 0) {W : Type 0} (took : W → List ℕ → W → Type 0) (failed : W → W → Type 0) (before after : W) (old mid new : View)
-    → old.failures ≤ mid.failures → (old.honest → mid.honest) → (old.honest → mid.reads ≡ old.reads)
-    → (fault : DiskDumpFault) → HasNoRestText A took failed before after mid new fault → HasNoRestText A took failed before after old new fault
-why_before A took failed before after old mid new later goes same (dump.Opening fault) is = record {
-  kind = is.kind;
-  there = λ honest. subst (λ (i : List (List ℕ)). Fails fault (opens A i)) (same honest) (is.there (goes honest));
-  device = λ failed. has_failed old mid new later (is.device failed);
-  memory = λ failed honest. tt;
-}
-why_before A took failed before after old mid new later goes same (dump.Writing fault) is = record {
+    → old.failures ≤ mid.failures → (old.honest → mid.honest) → (old.honest → mid.reads ≡ old.reads) → (old.honest → IsLabelled old)
+    → (fault : DiskDumpFault) → IsRestRefused A took failed before after (Unit {0}) mid new fault → HasNoRestText A took failed before after old new fault
+why_before A took failed before after old mid new later goes same label (dump.Opening fault) is = (
+  record {
+    kind = is.0.kind;
+    there = λ honest. subst (λ (i : List (List ℕ)). Fails fault (opens A i)) (same honest) (is.0.there (goes honest));
+    device = λ failed. has_failed old mid new later (is.0.device failed);
+    memory = λ failed honest. label honest;
+  },
+  is.1,
+)
+why_before A took failed before after old mid new later goes same label (dump.Writing fault) is = record {
   side = is.side;
   epoch = is.epoch;
   out = is.out;

@@ -25,6 +25,10 @@ use Rattle.served_disk.specs.Rests.{IsOfRest}
 some_is_none : {X : Type 0} (x : X) → ◌≡◌ {A = Option X} (Some x) None → ⊥
 some_is_none x same = cc
 
+-- what comes back is there
+pub is_back : {X : Type 0} (P : Type 0) (back : Option X) (x : X) → back ≡ Some x → back ≡ None → P
+is_back P back x is none = absurd (some_is_none x (sym is ∙ none))
+
 -- ---- kinds of faults
 
 -- a fault of opening a store is reported as one of opening its file

@@ -45,7 +45,7 @@ whole_line side figures = codes "side " ++ side_text side
 unfoldable pub sector_text : Side → Sector → List Byte
 sector_text side at = codes "side " ++ side_text side ++ codes " damaged sector " ++ decimal at ++ codes ": "
 
--- its end
+-- the end of a damaged sector's line
 unfoldable pub reason_end : Reason → List Byte
 reason_end reason = codes ", " ++ reason_text reason ++ codes "\n"
 
@@ -78,7 +78,7 @@ abbrev pub is_well : Bool → Taken → Bool
 is_well damaged (Ok figures) = not damaged
 is_well damaged (Err at) = false
 
--- all lines
+-- all lines of a check: those of side A, those of side B, and the last line
 abbrev pub checked_text : Checked → List Damage → List Damage → List Byte
 checked_text checked a b =
     side_lines side.A checked.a a ++ side_lines side.B checked.b b ++ last_line (has_damage checked) (opened_by checked.a checked.b)

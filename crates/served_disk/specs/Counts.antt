@@ -8,7 +8,7 @@ use Rattle.served_disk.specs.declared.tally.Tally.{Tally}
 abbrev pub ends_in : List Byte → ℕ
 ends_in piece = length (filter (λ byte. nat_eq byte 10) piece)
 
--- what is the station's, of that of all stations
+-- the item of a station in a list that has one for each station, from station 1 on
 abbrev pub at_station : {X : Type 0} → List X → Station → Option X
 at_station all station = if nat_lt 0 station then slice_get all (station - 1) else None
 

@@ -1,5 +1,5 @@
 -- What is written for a dump, and why none is.
-use Rattle.std.specs.Prelude.{◌⊎◌, List, Option, codes}
+use Rattle.std.specs.Prelude.{◌≡◌, ◌⊎◌, List, Option, codes}
 use Rattle.std.specs.Io.KnownBytes.{Appends}
 use Rattle.centre_core.specs.State.{IsState, State}
 use Rattle.centre_core.specs.StateRanges.{StateInRange}
@@ -42,9 +42,9 @@ module _ (A : Type 0) {W : Type 0} (took : W → List Byte → W → Type 0) (fa
     pub kept : disk.honest → OpensTo A register disk.reads
     pub unwritten : IsUnwritten took failed (register_bytes register) before after fault
 
-  -- the disk was not opened, for this reason; or the text of its register was not written, for this one
+  -- the disk was not opened, for this reason, and nothing was written; or the text of its register was not written, for this one
   abbrev pub IsUndumped : View → View → DiskDumpFault → Type 0
-  IsUndumped old new (dump.Opening fault) = IsUnopened A old new fault
+  IsUndumped old new (dump.Opening fault) = IsUnopened A old new fault × (after ≡ before)
   IsUndumped old new (dump.Writing fault) = IsUnwrittenBy old fault
 
 -- the fault that is reported for one for which a dump was refused, between these views of its disk

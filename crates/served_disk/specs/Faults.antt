@@ -96,19 +96,19 @@ OrMemory result P = MatchResult result P (λ e. e ≡ fault.Memory)
 
 -- ---- the fault that is reported
 
--- for a fault of reading a settings text
+-- the fault that is reported for a fault of reading a settings text
 abbrev pub of_settings : SettingsFault → Fault
 of_settings settings.BadSettings = fault.Settings
 of_settings settings.NoMemory = fault.Memory
 
--- for a fault of a disk in the file of this name
+-- the fault that is reported for a fault of a disk in the file of this name
 abbrev pub IsOfFile : FileFault → List Byte → Fault → Type 0
 IsOfFile (file.NotOpened cause) name is = Names is name cause
 IsOfFile file.DiskFault name is = is ≡ fault.Device
 IsOfFile file.NoMemory name is = is ≡ fault.Memory
 IsOfFile file.KeepsNothing name is = is ≡ fault.Unformatted
 
--- for a fault of a register on a disk
+-- the fault that is reported for a fault of a register on a disk
 abbrev pub of_store : StoreFault → Fault
 of_store store.Unformatted = fault.Unformatted
 of_store store.BadGeometry = fault.BadGeometry
@@ -119,25 +119,25 @@ of_store store.NoMemory = fault.Memory
 of_store store.EpochsUsedUp = fault.Epochs
 of_store store.Unready = fault.Device
 
--- for a fault of printing the register on a disk as text
+-- the fault that is reported for a fault of printing the register on a disk as text
 abbrev pub IsOfDump : DiskDumpFault → Fault → Type 0
 IsOfDump (dump.Opening store_fault) is = is ≡ of_store store_fault
 IsOfDump (dump.Writing Memory) is = is ≡ fault.Memory
 IsOfDump (dump.Writing Write) is = Names is (codes "-") why.Other
 
--- for a fault of reading the dump in the file of this name
+-- the fault that is reported for a fault of reading the dump in the file of this name
 abbrev pub IsOfLoad : LoadFault → List Byte → Fault → Type 0
 IsOfLoad load.Memory name is = is ≡ fault.Memory
 IsOfLoad load.Read name is = Names is name why.Other
 IsOfLoad (load.Line line cause) name is = is ≡ fault.DumpLine line cause
 IsOfLoad (load.Cut line) name is = is ≡ fault.DumpCut line
 
--- for a fault of writing a station's answers: to a file; or into memory, which then ran out
+-- the fault that is reported for a fault of writing a station's answers: to a file; or into memory, which then ran out
 abbrev pub IsOfWriting : Option (Bor (List Byte)) → Fault → Type 0
 IsOfWriting (Some name) is = Names is name.now why.Other
 IsOfWriting None is = is ≡ fault.Memory
 
--- for a fault of the run of a station with these files
+-- the fault that is reported for a fault of the run of a station with these files
 abbrev pub IsOfRun : RunFault → PortNames → Fault → Type 0
 IsOfRun run.Read names is = Names is names.input.now why.Other
 IsOfRun run.Write names is = IsOfWriting names.output is

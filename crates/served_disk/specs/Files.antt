@@ -15,17 +15,17 @@ use Rattle.served_disk.specs.declared.fault.Fault.{Fault}
 use Rattle.served_disk.specs.declared.fault.Fault.TheVariants as fault
 use Rattle.served_disk.specs.Faults.{Names}
 
--- it is the name at this place, counted from 1
+-- the name is the one at this place, counted from 1
 abbrev pub IsAt : List (Bor (List Byte)) → Place → Bor (List Byte) → Type 0
 IsAt names place name = slice_get names (place - 1) ≡ Some name
 
--- of their names: the first that came earlier too; if there is none, memory ran out
+-- why files of these names are refused: `Twice` with the first name that came earlier too; `Memory` only if there is none
 abbrev pub IsOfNames : List (Bor (List Byte)) → Fault → Type 0
 IsOfNames names (fault.Twice name) = (place : Place) × (first_twice (texts names) ≡ Some place) × IsAt names place name
 IsOfNames names fault.Memory = first_twice (texts names) ≡ None
 IsOfNames names other = ⊥
 
--- of opening or reading the file of this name, where a call failed with an error of this kind
+-- the fault that is reported where opening or reading the file of this name failed with an error of this kind
 abbrev pub IsNotRead : ErrorKind → List Byte → Fault → Type 0
 IsNotRead kind name is = MatchBool (is_memory kind) (is ≡ fault.Memory) (Names is name (open_cause kind))
 
@@ -39,7 +39,7 @@ pub record IsFirstUnopened (opened : List Byte → Result File Error → Type 0)
   pub failed : opened name.now (Err error)
   pub reported : IsNotRead (error_kind error) name.now is
 
--- of opening them: memory ran out, or this is why the first that was not opened was not
+-- why the files of these names were not all opened: memory ran out, or the first that was not opened failed (`IsFirstUnopened`)
 abbrev pub IsOfFiles : (List Byte → Result File Error → Type 0) → List (Bor (List Byte)) → Fault → Type 0
 IsOfFiles opened names is = (is ≡ fault.Memory) ⊎ IsFirstUnopened opened names is
 
@@ -61,11 +61,11 @@ is_left_out input output = is_dash input && is_dash output
 abbrev pub known_of : List Byte → List Byte → Option (List Byte)
 known_of input output = if is_left_out input output then Some [] else None
 
--- only one of the two is left out
+-- only one of this IN and OUT is left out
 abbrev pub is_half_left_out : List Byte → List Byte → Bool
 is_half_left_out input output = (is_dash input || is_dash output) && not (is_left_out input output)
 
--- a station has one of them
+-- of some station only one of IN and OUT is left out
 abbrev pub has_half : List (Bor (List Byte) × Bor (List Byte)) → Bool
 has_half named = list_any (λ (pair : Bor (List Byte) × Bor (List Byte)). is_half_left_out pair.0.now pair.1.now) named
 

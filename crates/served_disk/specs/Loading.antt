@@ -22,7 +22,7 @@ pub record IsDumpOf (s : State) (given : Option (List Byte)) : Type 0 where
 abbrev pub IsReadIn : (List Byte → Type 0) → Limits → State → Type 0
 IsReadIn P limits register = (text : List Byte) × P text × (text_read limits text ≡ Ok register)
 
--- why none is loaded from the file of this name: a line of the dump, or its end; the file was not read, or memory ran out
+-- why no register is loaded from the file of this name: a line of the dump or its end, the file was not read, or no memory
 abbrev pub IsOfLoading : List Byte → Fault → Type 0
 IsOfLoading name (fault.DumpLine line cause) = Unit {0}
 IsOfLoading name (fault.DumpCut line) = Unit {0}
@@ -30,7 +30,7 @@ IsOfLoading name (fault.File text cause) = (text.now ≡ name) × (cause ≡ Oth
 IsOfLoading name fault.Memory = Unit {0}
 IsOfLoading name other = ⊥
 
--- A fault of a line or of the end is what the dump is read as. The others say nothing of the dump.
+-- A fault of a line or of the end is what the dump is read as. The others state nothing of the dump.
 abbrev pub IsReadAs : Result State LoadFault → Fault → Type 0
 IsReadAs made (fault.DumpLine line cause) = made ≡ Err (load.Line line cause)
 IsReadAs made (fault.DumpCut line) = made ≡ Err (load.Cut line)

@@ -16,12 +16,12 @@ is_row_of kind.Item kind.Item = true
 is_row_of kind.Station kind.Station = true
 is_row_of _ _ = false
 
--- it is the header of an image
+-- the sector is to hold the header of an image
 abbrev pub is_header : Kind → Bool
 is_header kind.Header = true
 is_header _ = false
 
--- it is a record, or a gate that no record follows
+-- the sector is to hold a record, or a gate that no record follows
 abbrev pub is_of_records : Kind → Bool
 is_of_records (kind.Record commands) = true
 is_of_records kind.Gate = true

@@ -23,14 +23,14 @@ use Rattle.served_disk.specs.Synced.{HasOpenedSynced}
 
 -- Of the file of this name, given is what opening or making it may answer, and Begins is what then holds of its disk.
 module _ {F : Type 0} (given : Result (FileDisk F) FileFault → Type 0) (Begins : FileDisk F → Type 0) where
-  -- the file gave a disk, and this is so of it
+  -- the file gave a disk, and P holds of it
   pub record OnDisk (P : FileDisk F → Type 0) : Type 0 where
     pub disk : FileDisk F
     pub gives : given (Ok disk)
     pub begins : Begins disk
     pub done : P disk
 
-  -- the file gave none, for this reason, and no disk comes back
+  -- the file gave no disk, for a reason for which this fault is reported, and no disk comes back
   pub record IsNoDisk (name : List Byte) (fault : Fault) (back : Option (FileDisk F)) : Type 0 where
     pub reason : FileFault
     pub gives : given (Err reason)
@@ -55,7 +55,7 @@ module _ {F : Type 0} (given : Result (FileDisk F) FileFault → Type 0) (Begins
 
 -- Given are a name, what opening the file of a name may answer, and what such a file holds.
 module _ {F : Type 0} (view : F → View) (adopted : List Byte → Result (FileDisk F) FileFault → Type 0) (name : List Byte) where
-  -- the file of this name was opened as a disk, which had had no call, and this is so of it as it was then
+  -- the file of this name was opened as a disk, which had had no call, and P holds of the disk as it was then
   abbrev pub InFile : (View → Type 0) → Type 0
   InFile P = OnDisk (adopted name) IsNew (λ disk. P (file_view view disk))
 

@@ -39,6 +39,6 @@ served_in pairs = length (filter (λ (pair : Pair). pair.is_served) pairs)
 abbrev pub pair_of : List Pair → Station → Option Pair
 pair_of pairs station = at_station pairs station
 
--- that the lines of this station are served, if there is one
+-- the notice that the lines of this station are served, if there is such a station
 abbrev pub started_in : List Pair → Station → Option Notice
 started_in pairs station = option_map (λ (pair : Pair). notice.Started station pair.input pair.output) (pair_of pairs station)

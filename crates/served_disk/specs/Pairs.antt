@@ -14,7 +14,7 @@ use Rattle.served_disk.specs.declared.pairs.PairReader.{PairReader}
 use Rattle.served_disk.specs.declared.pairs.PairWriter.{PairWriter}
 use Rattle.served_disk.specs.declared.port_names.PortNames.{PortNames}
 use Rattle.served_disk.specs.declared.watched.WatchedReader.{WatchedReader}
-use Rattle.served_disk.specs.Files.{is_left_out}
+use Rattle.served_disk.specs.Files.{is_left_out, known_of}
 
 -- each with its station: the first with station 1, and so on
 abbrev pub numbered : {X : Type 0} → List X → List (Station × X)
@@ -27,8 +27,8 @@ opened_by (Err error) output old = old
 opened_by (Ok file) (Err error) old = record { lacks_output = true; input = old.input; output = old.output }
 opened_by (Ok file) (Ok out) old = record { lacks_output = old.lacks_output; input = Some file; output = Some out }
 
--- The files of a pair were opened. Given is what opening the file of a name to read answers, and what opening one to append answers. If IN was opened,
--- then so it was answered for OUT; if not, nothing is said of OUT.
+-- The files of a pair were opened. Given are what opening the file of a name to read may answer, and what opening one to append
+-- may answer. IN gave the one answer, and OUT the other if IN was opened; if it was not, nothing is stated of OUT.
 pub record IsOpening (opened appended : List Byte → Result File Error → Type 0) (pair : Pair) (old new : OpenFiles) : Type 0 where
   pub of_input : Result File Error
   pub of_output : Result File Error
@@ -41,6 +41,14 @@ pub record IsPairOf (named : Bor (List Byte) × Bor (List Byte)) (pair : Pair) :
   pub input : pair.input.now ≡ named.0.now
   pub output : pair.output.now ≡ named.1.now
   pub served : pair.is_served ≡ not (is_left_out named.0.now named.1.now)
+
+-- by its names, the station of this pair is left out
+abbrev pub leaves_out : Pair → Bool
+leaves_out pair = is_left_out pair.input.now pair.output.now
+
+-- what is known of the bytes that the reader of a pair has left, and of those that its writer holds
+abbrev pub known_by : Pair → Option (List Byte)
+known_by pair = known_of pair.input.now pair.output.now
 
 -- the standard streams: both names are `-`, and the station has lines
 pub record AreStreams (pair : Pair) : Type 0 where

@@ -1,5 +1,6 @@
--- Why a call of a disk was refused. A fault of what is on the disk is there, a device fault comes only if the device has failed,
--- and out of memory hides no fault that was read.
+-- Why a call of a disk was refused. A fault of what is on the disk is there, a device fault comes only if the device has failed, and out of
+-- memory masks no bad row or record that was read, and no refused command before the one that memory ran out for. It may mask a refused
+-- command after it.
 use Rattle.std.specs.Prelude.{◌≡◌, ◌⊎◌, ◌++◌, ◌∷◌, List, [], Some, None, true, is_ok}
 use Rattle.identity.specs.Numbers.{Byte}
 use Rattle.sector_disk.specs.Disk.{View, HasFailed}
@@ -35,16 +36,16 @@ module _ (A : Type 0) where
   FailsCheck (Damaged at) image = Finds A image (λ checked. first_damaged checked.a checked.b ≡ Some at)
   FailsCheck other image = Fails other (checked_in A image)
 
-  -- of an opening
+  -- why an opening was refused
   abbrev pub IsUnopened : View → View → StoreFault → Type 0
   IsUnopened old new = HasReason IsOfOpening (λ fault. Fails fault (opens A old.reads)) (MeetsNoFault old new) old new
 
-  -- of an opening whose register is then shown
+  -- why an opening whose register is then shown was refused; memory may also have run out after the disk opened
   abbrev pub IsUnshown : View → View → StoreFault → Type 0
   IsUnshown old new =
       HasReason IsOfOpening (λ fault. Fails fault (opens A old.reads)) (MeetsNoFault old new ⊎ (is_ok (opens A old.reads) ≡ true)) old new
 
-  -- of a check
+  -- why a check was refused
   abbrev pub IsUnchecked : View → View → StoreFault → Type 0
   IsUnchecked old new = HasReason IsOfOpening (λ fault. FailsCheck fault old.reads) (MeetsNoDamage old new) old new
 

@@ -1,6 +1,7 @@
 -- What `check --rest` writes: the text of what is left of the register, the lines of a check, and a line on what lacks.
 use Rattle.std.specs.Prelude.{◌≡◌, ◌⊎◌, ℕ, Bool, List, ◌++◌, Option, Some, None, Ok, codes, decimal, is_ok}
 use Rattle.centre_core.specs.State.{State}
+use Rattle.checkpoint.specs.declared.layout.Layout.{Layout}
 use Rattle.checkpoint.specs.declared.side.Side.{Side}
 use Rattle.image_rows.specs.Numbers.{Epoch}
 use Rattle.recovery.specs.declared.checking.Checked.{Checked}
@@ -9,6 +10,7 @@ use Rattle.recovery.specs.declared.fault.StoreFault.TheVariants.{Damaged, NoMemo
 use Rattle.recovery.specs.declared.rest.LeftOut.{LeftOut}
 use Rattle.recovery.specs.declared.rest.Rest.{Rest}
 use Rattle.recovery.specs.Checking.{IsNoDamage, checked_in, opened_by}
+use Rattle.recovery.specs.Label.{layout_in}
 use Rattle.recovery.specs.Opening.{Fails}
 use Rattle.recovery.specs.Opens.{opens}
 use Rattle.recovery.specs.Rests.{AreLaterOnDisk, HasNoRest, IsRestOf}
@@ -52,11 +54,11 @@ abbrev pub stop_text : Option Sector → ℕ → List Byte
 stop_text None later = codes " records none\n"
 stop_text (Some at) later = codes " records from " ++ decimal at ++ codes " and " ++ decimal later ++ codes " later\n"
 
--- the whole line
+-- the line of what is left, put together from its parts
 abbrev pub rest_line : Side → Epoch → ℕ → LeftOut → Option Sector → ℕ → List Byte
 rest_line side epoch count out bad later = taken_text side epoch count ++ left_out_text out ++ stop_text bad later
 
--- that of a disk of which nothing is left
+-- the line of a disk of which nothing is left
 abbrev pub no_rest_line : List Byte
 no_rest_line = codes "rest none\n"
 
@@ -64,7 +66,7 @@ no_rest_line = codes "rest none\n"
 abbrev pub line_of : {A : Type 0} → Rest A → List Byte
 line_of rest = rest_line rest.side rest.epoch rest.register.count rest.left_out rest.stop rest.later
 
--- that of what is left, if anything is
+-- the line of what is left, or that of a disk of which nothing is
 abbrev pub line_of_found : {A : Type 0} → Option (Rest A) → List Byte
 line_of_found None = no_rest_line
 line_of_found (Some rest) = line_of rest
@@ -128,6 +130,10 @@ module _ (A : Type 0) {W : Type 0} (contents : W → Option (List Byte)) (took :
 
 -- ---- why none
 
+-- a disk has a label that states a layout
+abbrev pub IsLabelled : View → Type 0
+IsLabelled old = (layout : Layout) × (layout_in old.reads ≡ Ok layout)
+
 -- Of a writer, given are the relations between it before and after it takes bytes and fails.
 module _ (A : Type 0) {W : Type 0} (took : W → List Byte → W → Type 0) (failed : W → W → Type 0) (before after : W) where
   -- the text of what is left was not written, for this reason
@@ -140,10 +146,15 @@ module _ (A : Type 0) {W : Type 0} (took : W → List Byte → W → Type 0) (fa
     pub left : disk.honest → IsRestOf A disk.reads side epoch out register bad
     pub unwritten : IsUnwritten took failed (register_bytes register) before after fault
 
-  -- the disk was not read, for this reason; or the text was not written, for this one
+  -- The disk was not read, for this reason, and nothing was written; or the text was not written, for this one. Given is what is so of an honest
+  -- disk if memory ran out while it was read.
+  abbrev pub IsRestRefused : Type 0 → View → View → DiskDumpFault → Type 0
+  IsRestRefused NoneMet old new (dump.Opening fault) = HasReason IsNoDamage (λ why. Fails why (opens A old.reads)) NoneMet old new fault × (after ≡ before)
+  IsRestRefused NoneMet old new (dump.Writing fault) = IsRestUnwritten old fault
+
+  -- the same of a disk that was also checked: out of memory hides no missing layout
   abbrev pub HasNoRestText : View → View → DiskDumpFault → Type 0
-  HasNoRestText old new (dump.Opening fault) = HasReason IsNoDamage (λ fault. Fails fault (opens A old.reads)) (Unit {0}) old new fault
-  HasNoRestText old new (dump.Writing fault) = IsRestUnwritten old fault
+  HasNoRestText old new fault = IsRestRefused (IsLabelled old) old new fault
 
 -- a fault of a check, where damage is no fault: it was found before memory ran out
 abbrev pub without_damage : StoreFault → StoreFault

@@ -18,7 +18,8 @@ use Rattle.register_text.specs.Text.{IsUnder}
 use Rattle.served_disk.specs.Dumping.{IsDumpedBy}
 use Rattle.served_disk.specs.Making.{IsMadeFor}
 
--- The old image opens to a register, and the new one to a register with the same rows under these limits. Under its own limits that is the same.
+-- The old image opens to a register, and the new one to a register with the same rows under these limits. If these are the
+-- limits of the old register, the new one equals it.
 pub record IsSameUnder (A : Type 0) (limits : Limits) (old new : List (List Byte)) : Type 0 where
   pub dumped : State
   pub loaded : State

@@ -39,7 +39,7 @@ module _ {A : Type 0} where
     pub written : out ≡ text given
     pub trouble : troubled ≡ is_trouble given
 
-  -- out of memory in its place; the answer is a list
+  -- out of memory is shown in place of this answer, which is a list; that is trouble
   pub record GivesWay (given : Answer A) (out : List Byte) (troubled : Bool) : Type 0 where
     pub long : IsLine given → ⊥
     pub written : out ≡ text {B = A} (answer.QueryOutage 1 Memory)

@@ -42,18 +42,18 @@ abbrev pub HasEnded : PortNames → Result Ran RunFault → Result Bool Fault �
 HasEnded name (Ok ran) end = end ≡ Ok ran.troubled
 HasEnded name (Err fault) end = (reported : Fault) × (end ≡ Err reported) × IsOfRun fault name reported
 
--- the exit status of stations that have ended so
+-- the exit status of stations that have ended with this result: that of the fault; else 1 if an answer reported trouble, or 0
 abbrev pub end_status : Result Bool Fault → ℕ
 end_status (Ok troubled) = cond troubled 1 0
 end_status (Err fault) = fault_status fault
 
--- an answer of a run that ended so reported trouble
+-- an answer of a run with this result reported trouble
 abbrev pub reports_trouble : Result Ran RunFault → Bool
 reports_trouble (Ok ran) = ran.troubled
 reports_trouble (Err fault) = false
 
 module _ {I O : Type 0} where
-  -- an answer of this run did
+  -- an answer of this run reported trouble
   abbrev pub is_troubled : StationRun I O → Bool
   is_troubled run = reports_trouble run.ran
 

@@ -265,9 +265,10 @@ pub(crate) fn report_on<A: Allocator + Copy + Drop, D: Disk>(
 /// Checks both sides of a disk. The disk is synced once, and then only read. It is returned, also after a fault.
 ///
 /// # Errors
-/// There is no layout on the disk, the device has failed, or out of memory, which hides no damage that was read. Damage is no error: the
-/// text reports it. Only where memory ran out after damage was found it is `Damaged`, with the first damaged sector of side A, or else
-/// of side B.
+/// There is no layout on the disk, the device has failed, or out of memory. That masks no bad row or record that was read, and no refused
+/// command before the one that memory ran out for. It may mask a refused command after it. Damage is no error: the text reports it. But it
+/// may be `Damaged` in place of a report, with the first damaged sector of side A, or else of side B; that memory ran out then, no clause
+/// can say.
 pub fn check_on<A: Allocator + Copy + Drop, D: Disk>(
     alloc: A,
     disk: D,
@@ -293,8 +294,8 @@ pub fn check_on<A: Allocator + Copy + Drop, D: Disk>(
 /// counts the sectors that are read.
 ///
 /// # Errors
-/// Those of `open_disk`, but `Damaged` only where memory ran out after damage was found: it is the first damaged sector of side A, or else
-/// of side B. `Memory` also comes if there is none for a text of 1,024 bytes.
+/// Those of `open_disk`. It may be `Damaged` in place of a report, with the first damaged sector of side A, or else of side B; that memory
+/// ran out then, no clause can say. `Memory` also comes if there is none for a text of 1,024 bytes.
 pub fn check_disk<'a, F: SectorFile, R: DiskFiles<F> + Clock + Eprint>(
     rt: &R,
     alloc: Global,

@@ -1,7 +1,6 @@
 //! The text of the register on a disk.
-ghost use Rattle.std.specs.Prelude.{◌≡◌, IfErr, IfOk, OnOk};
+ghost use Rattle.std.specs.Prelude.{◌≡◌, IfErr, IfOk, None, OnOk};
 ghost use Rattle.file_disk.specs.Disk.{calls_of};
-ghost use Rattle.recovery.specs.declared.fault.StoreFault.{StoreFault};
 ghost use Rattle.recovery.specs.declared.fault.StoreFault.TheVariants.{DiskFault};
 ghost use Rattle.register_text.specs.Dump.{register_bytes};
 ghost use Rattle.register_text.specs.Passing.{IsUnwritten, IsWritten};
@@ -55,7 +54,6 @@ pub fn dump_on<A: Allocator + Copy + Drop, D: Disk, W: TextSink>(
 ) -> Result<D, (DiskDumpFault, D)>
     ensures dumped { IfOk result (λ d. IsDumpedBy A W.contents W.took W.flushed out.old out.new (D.view disk)) }
     ensures refused { IfErr result (λ e. IsUndumped A W.took W.failed out.old out.new (D.view disk) (D.view e.1) e.0) }
-    ensures unwritten { IfErr result (λ e. (fault : StoreFault) → e.0 ≡ DiskDumpFault.Opening fault → out.new ≡ out.old) }
     ensures calls { IfOk result (λ d. WasRead (D.view disk) (D.view d)) }
     ensures some_calls { IfErr result (λ e. WasReadAtMost (e.0 ≡ DiskDumpFault.Opening DiskFault) (D.view disk) (D.view e.1)) }
     ensures kinds { IfErr result (λ e. IsOfDumping e.0) }
@@ -76,7 +74,8 @@ pub fn dump_on<A: Allocator + Copy + Drop, D: Disk, W: TextSink>(
 /// returned.
 ///
 /// # Errors
-/// Those of `open_disk`. `File` with `-` only if the writer failed, and `Memory` only if it did not.
+/// Those of `open_disk`. `File` with `-` only if the writer failed, and `Memory` only if it did not. If no disk comes back, nothing is
+/// written.
 pub fn dump_disk<'a, F: SectorFile, R: DiskFiles<F>, W: TextSink>(
     rt: &R,
     alloc: Global,
@@ -87,6 +86,9 @@ pub fn dump_disk<'a, F: SectorFile, R: DiskFiles<F>, W: TextSink>(
     ensures refused { IfErr result (IsRefusedIn F.view (R.adopted rt.now) name.now (ReportsDump (IsUndumped Global W.took W.failed out.old out.new))) }
     ensures calls { IfOk result (λ disk. IsOnlyRead (calls_of disk)) }
     ensures reading { IfErr result (IsReadRefused IsOfDiskDump name.now) }
+
+    // Nothing is written if the file gives no disk.
+    ensures untouched { IfErr result (λ e. e.disk ≡ None → out.new ≡ out.old) }
 {
     let disk = adopt_disk(rt, name)?;
     match dump_on(alloc, disk, out) {

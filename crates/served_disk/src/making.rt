@@ -84,7 +84,7 @@ fn if_formatted<'a, F: SectorFile>(
 /// disk. Nothing is written after the last sync.
 ///
 /// # Errors
-/// `File` if the file can't be made or exists already, `Device` and `Memory`. Once the file is made, only `Device` comes, if the
+/// `File` if the file can't be made or exists already, `Device` and `Memory`. Once it holds all sectors, only `Device` comes, if the
 /// disk has failed. A file that could not be finished is left.
 pub fn format_disk<'a, F: SectorFile, R: DiskFiles<F>>(
     rt: &R,
@@ -104,7 +104,7 @@ pub fn format_disk<'a, F: SectorFile, R: DiskFiles<F>>(
     if_formatted(disk, done)
 }
 
-/// The same for this register, which has the layout's limits.
+/// Makes a disk in a new file of this name, as `format_disk` does, but for this register, which has the layout's limits.
 ///
 /// # Errors
 /// Those of `format_disk`.

@@ -48,7 +48,7 @@ impl<'a> Notice<'a> {
         }
     }
 
-    /// Writes it to standard error, by one write if it is no longer than 1,024 bytes. `None` if that failed, or if memory ran out.
+    /// Writes it to standard error, by one write if it is no longer than 1,024 bytes (tested). `None` if that failed, or if memory ran out.
     pub(crate) fn report<R: Eprint>(&self, rt: &R, alloc: Global) -> Option<()> {
         let mut line = Vec::new(alloc);
         self.print(&mut line).ok()?;

@@ -1,11 +1,12 @@
 //! The pairs of files of a service: what a station's lines are read from, and what its answers are written to.
-ghost use Rattle.std.specs.Prelude.{◌≡◌, ◌++◌, ◌∷◌, [], codes, false, not, true, IfOk, IfErr, None, OnErr, OnOk, length};
+ghost use Rattle.std.specs.Prelude.{◌≡◌, ◌++◌, ◌∷◌, [], codes, false, is_err, not, true, IfOk, IfErr, None, Ok, OnErr, OnOk, length};
 ghost use Rattle.std.specs.List.{AllZip};
 ghost use Rattle.std.specs.Io.{ReadsAtMost, WritesAtMost};
+ghost use Rattle.std.specs.Io.KnownBytes.{ReadConsumes};
 ghost use Rattle.settings.specs.Naming.{texts};
 ghost use Rattle.served_disk.specs.Faults.{OrMemory};
 ghost use Rattle.served_disk.specs.Files.{has_half, inputs_in, is_half_left_out, is_left_out};
-ghost use Rattle.served_disk.specs.Pairs.{AreNamesBy, AreNamesOf, AreStreams, IsOpening, IsPairOf, IsPortOf, numbered};
+ghost use Rattle.served_disk.specs.Pairs.{AreNamesBy, AreNamesOf, AreStreams, IsOpening, IsPairOf, IsPortOf, known_by, leaves_out, numbered};
 ghost use Rattle.served_disk.specs.declared.fault.Fault.TheVariants.{HalfLeftOut, Memory};
 ghost use Rattle.served_disk.specs.declared.notice.Notice.TheVariants.{Started};
 ghost use Rattle.served_disk.specs.declared.pairs.Pair.{Pair};
@@ -46,7 +47,10 @@ impl OpenFiles {
     }
 
     fn read(&mut self, buffer: &mut [u8]) -> io::Result<usize>
-        ensures { ReadsAtMost result buffer.new }
+        ensures bytes { ReadsAtMost result buffer.new }
+        ensures closed { self.old.input ≡ None → is_err result ≡ true }
+        ensures output { self.new.output ≡ self.old.output }
+        ensures lacks { self.new.lacks_output ≡ self.old.lacks_output }
     {
         match &mut self.input {
             Some(file) => file.read(buffer),
@@ -55,7 +59,10 @@ impl OpenFiles {
     }
 
     fn write(&mut self, bytes: &[u8]) -> io::Result<usize>
-        ensures { WritesAtMost result bytes.now }
+        ensures bytes { WritesAtMost result bytes.now }
+        ensures closed { self.old.output ≡ None → is_err result ≡ true }
+        ensures input { self.new.input ≡ self.old.input }
+        ensures lacks { self.new.lacks_output ≡ self.old.lacks_output }
     {
         match &mut self.output {
             Some(file) => file.write(bytes),
@@ -80,7 +87,7 @@ fn is_left_out(input: &str, output: &str) -> bool
     input == "-" && output == "-"
 }
 
-/// Whether only one of the two is left out.
+/// Whether only one of this IN and OUT is left out.
 fn is_half_left_out(input: &str, output: &str) -> bool
     ensures { result ≡ is_half_left_out input.now output.now }
 {
@@ -106,7 +113,8 @@ impl<'a> Pair<'a> {
         Pair::named(input, output, !is_left_out(input, output))
     }
 
-    /// The standard streams, which faults name `-`. They are open.
+    /// The standard streams, which faults name `-`. They are open. No `PairReader` reads such a pair: it goes by the names, and would end
+    /// at once.
     pub fn of_streams() -> Pair<'a>
         ensures { AreStreams result }
     {
@@ -148,7 +156,8 @@ impl<'a> Pair<'a> {
         }
     }
 
-    /// The files that faults of the station's run name. If OUT could not be opened, a fault of reading names OUT.
+    /// The files that faults of the station's run name. If OUT could not be opened, a fault of reading names OUT. The clause says: one of
+    /// the two.
     pub fn names<R: Wait>(&self, rt: &R) -> PortNames<'a>
         ensures { AreNamesOf self.now result }
     {
@@ -156,7 +165,7 @@ impl<'a> Pair<'a> {
         self.names_by(lacks_output)
     }
 
-    /// The same, by whether OUT could not be opened.
+    /// The files that faults of the station's run name, by whether OUT could not be opened.
     fn names_by(&self, lacks_output: bool) -> PortNames<'a>
         ensures { AreNamesBy lacks_output self.now result }
     {
@@ -230,11 +239,16 @@ impl<'p, 'a, R: Eprint + Wait> PairReader<'p, 'a, R> {
 }
 
 impl<'p, 'a, R: Eprint + Wait> Read for PairReader<'p, 'a, R> {
-    ghost use Rattle.served_disk.specs.Files.{known_of};
+    ghost remaining = { λ reader. known_by reader.pair.now };
 
-    ghost remaining = { λ reader. known_of reader.pair.now.input.now reader.pair.now.output.now };
+    fn read(&mut self, buffer: &mut [u8]) -> io::Result<usize>
+        ensures bound { ReadsAtMost result buffer.new }
+        ensures bytes { ReadConsumes (known_by self.old.pair.now) (known_by self.new.pair.now) result buffer.new }
 
-    fn read(&mut self, buffer: &mut [u8]) -> io::Result<usize> {
+        // Of a station that is left out there is nothing to read. The reader of any other one has begun; that it opened its pair is tested.
+        ensures left_out { leaves_out self.old.pair.now ≡ true → result ≡ Ok 0 }
+        ensures begun { leaves_out self.old.pair.now ≡ false → self.new.is_begun ≡ true }
+    {
         if is_left_out(self.pair.input, self.pair.output) {
             return Ok(0);
         }
@@ -254,9 +268,7 @@ pub struct PairWriter<'p, 'a, R> {
 }
 
 impl<'p, 'a, R: Wait> Write for PairWriter<'p, 'a, R> {
-    ghost use Rattle.served_disk.specs.Files.{known_of};
-
-    ghost contents = { λ writer. known_of writer.pair.now.input.now writer.pair.now.output.now };
+    ghost contents = { λ writer. known_by writer.pair.now };
 
     fn write(&mut self, bytes: &[u8]) -> io::Result<usize> {
         if is_left_out(self.pair.input, self.pair.output) {
@@ -389,7 +401,7 @@ pub fn ports_of<'p, 'a, R: Eprint + Wait>(
     Ok(ports)
 }
 
-/// The files that faults of these stations name, in order, before any of them is opened.
+/// The files that faults of these stations name, in order.
 ///
 /// # Errors
 /// `Memory`.
@@ -410,7 +422,8 @@ pub fn names_of<'a, R: Wait>(
     Ok(names)
 }
 
-/// Writes the same names again, once the stations have ended.
+/// Writes the files that faults of these stations name into `names` again, once the stations have ended: by then it is known
+/// whose OUT could not be opened.
 pub fn name_ended<'a, R: Wait>(rt: &R, names: &mut [PortNames<'a>], pairs: &[Pair<'a>])
     requires { length names.old ≡ length pairs.now }
     ensures names { AllZip AreNamesOf pairs.now names.new }

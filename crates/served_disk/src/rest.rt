@@ -1,11 +1,10 @@
 //! The text of what is left of the register on a damaged disk.
-ghost use Rattle.std.specs.Prelude.{◌≡◌, ◌⊎◌, ◌++◌, ◌≤◌, ◌<◌, ℕ, IfErr, IfOk, IfSome, IsErrOf, OnOk};
+ghost use Rattle.std.specs.Prelude.{◌≡◌, ◌⊎◌, ◌++◌, ◌≤◌, ◌<◌, ℕ, IfErr, IfOk, IfSome, IsErrOf, None, OnOk};
 ghost use Rattle.std.specs.Io.KnownBytes.{Appends};
 ghost use Rattle.sector_disk.specs.Disk.{HasFailed};
 ghost use Rattle.sector_disk.specs.Reading.{before_reads};
 ghost use Rattle.file_disk.specs.Disk.{calls_of};
 ghost use Rattle.checkpoint.specs.Layout.{disk_size};
-ghost use Rattle.recovery.specs.declared.fault.StoreFault.{StoreFault};
 ghost use Rattle.recovery.specs.declared.fault.StoreFault.TheVariants.{DiskFault, NoMemory};
 ghost use Rattle.recovery.specs.Checking.{IsDamagedAt, IsNoDamage};
 ghost use Rattle.recovery.specs.Opening.{Fails};
@@ -14,7 +13,7 @@ ghost use Rattle.recovery.specs.Rests.{HasLaterOnDisk, IsDiskRest};
 ghost use Rattle.served_disk.specs.Calls.{IsOnlyRead, IsReadRefused, WasRead, WasReadAtMost};
 ghost use Rattle.served_disk.specs.Dumping.{IsOfDiskDump, ReportsDump};
 ghost use Rattle.served_disk.specs.Named.{InFile, IsRefusedIn};
-ghost use Rattle.served_disk.specs.Rests.{HasNoRestText, IsOfRest, IsRestReportedOn, IsRestWritten, IsRestWrittenOn};
+ghost use Rattle.served_disk.specs.Rests.{HasNoRestText, IsOfRest, IsRestRefused, IsRestReportedOn, IsRestWritten, IsRestWrittenOn};
 ghost use Rattle.served_disk.specs.Rests.{lacking_radios_text, lacking_stations_text, lacking_text, left_out_text};
 ghost use Rattle.served_disk.specs.Rests.{line_of, line_of_found, stop_text, taken_text, without_damage};
 
@@ -182,8 +181,7 @@ fn write_rest<A: Allocator + Copy + Drop, D: Disk, W: TextSink>(
     requires room { disk_size checked.now.layout ≤ (D.view disk.old).sectors }
     requires on_disk { (at : ℕ) → IsDamagedAt at checked.now.a ⊎ IsDamagedAt at checked.now.b → at < (D.view disk.old).sectors }
     ensures written { IfOk result (λ report. IsRestWrittenOn A W.contents W.took W.flushed out.old out.new checked.now report (D.view disk.old)) }
-    ensures refused { IfErr result (HasNoRestText A W.took W.failed out.old out.new (D.view disk.old) (D.view disk.new)) }
-    ensures unwritten { IfErr result (λ e. (fault : StoreFault) → e ≡ DiskDumpFault.Opening fault → out.new ≡ out.old) }
+    ensures refused { IfErr result (IsRestRefused A W.took W.failed out.old out.new (Unit {0}) (D.view disk.old) (D.view disk.new)) }
     ensures only_reads { before_reads (D.view disk.new).calls ≡ before_reads (D.view disk.old).calls }
     ensures kinds { IfErr result IsOfRest }
 {
@@ -216,8 +214,8 @@ fn without_damage(fault: StoreFault) -> StoreFault
 /// is returned, also after a fault.
 ///
 /// # Errors
-/// `Opening` if there is no layout on the disk, the device has failed, or out of memory: nothing is written. Damage is no error. `Writing`
-/// only if the writer failed, or if memory ran out and it did not: a prefix of the text is written.
+/// `Opening` if there is no layout on the disk, the device has failed, or out of memory, which hides no missing layout: nothing is written.
+/// Damage is no error. `Writing` only if the writer failed, or if memory ran out and it did not: a prefix of the text is written.
 pub fn rest_on<A: Allocator + Copy + Drop, D: Disk, W: TextSink>(
     alloc: A,
     disk: D,
@@ -225,7 +223,6 @@ pub fn rest_on<A: Allocator + Copy + Drop, D: Disk, W: TextSink>(
 ) -> Result<(RestReport<A>, D), (DiskDumpFault, D)>
     ensures written { IfOk result (λ r. IsRestWritten A W.contents W.took W.flushed out.old out.new r.0 (D.view disk)) }
     ensures refused { IfErr result (λ e. HasNoRestText A W.took W.failed out.old out.new (D.view disk) (D.view e.1) e.0) }
-    ensures unwritten { IfErr result (λ e. (fault : StoreFault) → e.0 ≡ DiskDumpFault.Opening fault → out.new ≡ out.old) }
     ensures calls { IfOk result (λ r. WasRead (D.view disk) (D.view r.1)) }
     ensures some_calls { IfErr result (λ e. WasReadAtMost (e.0 ≡ DiskDumpFault.Opening DiskFault) (D.view disk) (D.view e.1)) }
     ensures kinds { IfErr result (λ e. IsOfRest e.0) }
@@ -245,7 +242,8 @@ pub fn rest_on<A: Allocator + Copy + Drop, D: Disk, W: TextSink>(
 /// and then only read. It is returned. `tally` counts the sectors that are read.
 ///
 /// # Errors
-/// Those of `open_disk` but `Damaged`. `File` with `-` only if the writer failed, and `Memory` only if it did not.
+/// Those of `open_disk` but `Damaged`; `Memory` may hide damage. `File` with `-` only if the writer failed, and `Memory` only if it did
+/// not. If no disk comes back, nothing is written.
 pub fn rest_disk<'a, F: SectorFile, R: DiskFiles<F> + Clock + Eprint, W: TextSink>(
     rt: &R,
     alloc: Global,
@@ -257,6 +255,9 @@ pub fn rest_disk<'a, F: SectorFile, R: DiskFiles<F> + Clock + Eprint, W: TextSin
     ensures refused { IfErr result (IsRefusedIn F.view (R.adopted rt.now) name.now (ReportsDump (HasNoRestText Global W.took W.failed out.old out.new))) }
     ensures calls { IfOk result (λ r. IsOnlyRead (calls_of r.1)) }
     ensures reading { IfErr result (IsReadRefused IsOfDiskDump name.now) }
+
+    // Nothing is written if the file gives no disk.
+    ensures untouched { IfErr result (λ e. e.disk ≡ None → out.new ≡ out.old) }
 {
     let disk = adopt_disk(rt, name)?;
     let counted = CountedDisk::new(disk, tally);

@@ -29,7 +29,7 @@ fn close_disk<D: Disk + Drop>(store: Store<Global, D>) -> bool
 /// only a prefix of its lines is answered. The disk is closed when all have ended.
 ///
 /// # Errors
-/// `Memory`, before any line is read.
+/// `Memory`, also for a number of ports that has no place. No clause says that no line was read.
 pub fn serve_stations<
     'a,
     J: Centre + Send + Sync,

@@ -5,6 +5,7 @@ ghost use Rattle.served_disk.specs.declared.notice.Notice.TheVariants.{Serving};
 
 use crate::doorbell::Doorbell;
 use crate::notice::Notice;
+use crate::serving::end_of;
 use crate::{Fault, Pair};
 use console::{Ran, RunFault};
 use flusher::Gate;
@@ -25,7 +26,7 @@ pub struct Manner<'f> {
 }
 
 /// What a service does as its stations end: it closes the files of each, and reports its fault on standard error. A device that
-/// fails is reported once, at the first command that this refuses. Threads may share it.
+/// fails is reported once, at the first command that this refuses (tested). Threads may share it.
 #[derive(Drop)]
 pub struct ServiceWatch<'r, 'p, 'a, R> {
     rt: &'r R,
@@ -176,8 +177,7 @@ impl<'r, 'p, 'a, R: Eprint + Wait> Watch for ServiceWatch<'r, 'p, 'a, R> {
             return;
         };
         pair.close(self.rt);
-        if let Err(fault) = ran {
-            let fault = Fault::of_run(*fault, &pair.names(self.rt));
+        if let Err(fault) = end_of(&pair.names(self.rt), ran) {
             let _ = Notice::Fault(fault).report(self.rt, self.alloc);
         }
         if pair.is_served() {

@@ -41,7 +41,10 @@ pub fn print_stations<I, W: Write>(
 }
 
 /// How the run of a station with these files has ended: whether an answer reported trouble, or the fault.
-fn end_of<'a>(names: &PortNames<'a>, ended: &Result<Ran, RunFault>) -> Result<bool, Fault<'a>>
+pub(crate) fn end_of<'a>(
+    names: &PortNames<'a>,
+    ended: &Result<Ran, RunFault>,
+) -> Result<bool, Fault<'a>>
     ensures { HasEnded names.now ended.now result }
 {
     match ended {
@@ -80,7 +83,7 @@ pub fn outcome<'a, I, O: Drop>(
     ended(names, &served.runs)
 }
 
-/// The exit status of stations that have ended so: that of the fault; else 1 if an answer reported trouble, or 0.
+/// The exit status of stations that have ended with this result: that of the fault; else 1 if an answer reported trouble, or 0.
 fn end_status(ended: &Result<bool, Fault<'_>>) -> u8
     ensures { result ≡ end_status ended.now }
 {

@@ -74,7 +74,7 @@ fn write_text<A: Allocator, B: Allocator>(text: &mut Vec<u8, A>, answer: &Answer
     true
 }
 
-/// The same of a listing.
+/// Makes the text of the answer to a listing, and returns whether it reports trouble.
 fn write_listing<A: Allocator, B: Allocator + Clone>(
     text: &mut Vec<u8, A>,
     register: &Register<B>,

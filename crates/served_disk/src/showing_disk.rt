@@ -59,7 +59,7 @@ pub fn show_on<A: Allocator + Copy + Drop, D: Disk>(
     }
 }
 
-/// The same of the disk in the file of this name.
+/// Answers a line about the disk in the file of this name, as `show_on` does about a disk.
 ///
 /// # Errors
 /// Those of `open_disk`. `Memory` also comes if there is none for a text of 1,024 bytes.

@@ -2,7 +2,7 @@ use Rattle.std.proofs.Common.{rules, inl, inr}
 use Rattle.file_disk.specs.Disk.{calls_of}
 use Rattle.served_disk.specs.Dumping.{IsOfDiskDump}
 use Rattle.served_disk.proofs.Reasons.{passed}
-use Rattle.served_disk.proofs.Returned.{dump_back, none_back}
+use Rattle.served_disk.proofs.Returned.{dump_back, is_back, none_back}
 use Rattle.served_disk.proofs.dumping.dump_disk.Goals as goal
 
 pub returns-in-Ok-clause-dumped : goal.returns-in-Ok-clause-dumped
@@ -33,3 +33,6 @@ returns-in-Err-clause-reading g c =
     let why = c.in-Err.ensures in
     dump_back c.args.name.now c.of_dump.result c.in-Err.fault c.in-Err.disk (calls_of c.in_ok-disk.disk) c.in_ok-disk.ensures.new.calls
     c.of_dump.ensures.fault c.of_dump.ensures.disk why.kinds why.some_calls
+
+pub returns-in-Err-clause-untouched : goal.returns-in-Err-clause-untouched
+returns-in-Err-clause-untouched g c none = is_back _ _ _ c.of_dump.ensures.disk none

@@ -27,4 +27,4 @@ returns-in-Err-dumped-clause-refused g c =
 pub returns-in-Err-clause-refused : goal.returns-in-Err-clause-refused
 returns-in-Err-clause-refused g c =
     let why = c.in-Err.ensures.refused in
-    record { kind = why.kinds; there = why.refused; device = why.fault; memory = why.memory }
+    (record { kind = why.kinds; there = why.refused; device = why.fault; memory = why.memory }, refl)

@@ -5,7 +5,7 @@ use Rattle.file_disk.specs.Disk.{calls_of, file_view}
 use Rattle.served_disk.specs.Dumping.{IsOfDiskDump}
 use Rattle.served_disk.specs.Rests.{HasNoRestText, IsRestWritten}
 use Rattle.served_disk.proofs.Reasons.{passed}
-use Rattle.served_disk.proofs.Returned.{dump_back, none_back, rest_dumps}
+use Rattle.served_disk.proofs.Returned.{dump_back, is_back, none_back, rest_dumps}
 use Rattle.served_disk.proofs.rest.rest_disk.Goals as goal
 
 pub returns-in-Ok-clause-written : goal.returns-in-Ok-clause-written
@@ -51,3 +51,6 @@ returns-in-Err-clause-reading g c =
     dump_back c.args.name.now c.of_dump.result c.in-Err.fault c.in-Err.disk.disk (calls_of c.new-counted.result.disk)
     (ap (λ (d : FileDisk g.row.F.Denot). calls_of d) c.new-counted.ensures.disk ∙ c.in_ok-disk.ensures.new.calls) c.of_dump.ensures.fault (search rules)
     (rest_dumps c.in-Err.fault why.kinds) why.some_calls
+
+pub returns-in-Err-clause-untouched : goal.returns-in-Err-clause-untouched
+returns-in-Err-clause-untouched g c none = is_back _ _ _ c.of_dump.ensures.disk none

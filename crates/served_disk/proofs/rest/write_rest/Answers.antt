@@ -1,4 +1,4 @@
-use Rattle.std.proofs.Common.{inl, refl}
+use Rattle.std.proofs.Common.{Err, ap, inl, refl}
 use Rattle.served_disk.specs.Rests.{line_of}
 use Rattle.served_disk.proofs.OfRest.{of_some, reported_some}
 use Rattle.served_disk.proofs.rest.write_rest.Goals as goal
@@ -23,6 +23,11 @@ returns-in-Ok-written-clause-written g c =
         written = c.in-Ok-written.ensures.written;
       });
     }
+
+pub returns-in-Err-clause-refused : goal.returns-in-Err-clause-refused
+returns-in-Err-clause-refused g c =
+    let why = c.in-Err.ensures in
+    (record { kind = why.kinds; there = why.faults; device = λ same. why.fault (ap (λ f. Err f) same); memory = λ same honest. tt }, refl)
 
 pub returns-in-Err-written-clause-refused : goal.returns-in-Err-written-clause-refused
 returns-in-Err-written-clause-refused g c =
