@@ -1,6 +1,6 @@
 -- What passes by the writer of a run, a part after another.
 use Rattle.std.proofs.Common.{◌≡◌, ℕ, ◌+◌, ◌<◌, ◌≤◌, List, [], ◌∷◌, ◌++◌, length, take, drop, refl, sym, ◌∙◌, ap, subst, arith, append_assoc, length-append, inl, inr, Option, Result, Some, Ok, Err}
-use Rattle.std.specs.Prelude.{IfErr, IfOk, OnErr, OnOk}
+use Rattle.std.specs.Prelude.{IfErr, IfOk, IsErrOf, OnErr, OnOk}
 use Rattle.std.specs.List.{list_any}
 use Rattle.std.specs.Str.Lines.{lines}
 use Rattle.std.proofs.lemmas.List.{append-nil, take-append-drop}
@@ -14,10 +14,11 @@ use Rattle.console.specs.declared.answer.Answer.{Answer}
 use Rattle.console.specs.Answer.{text, texts, is_trouble}
 use Rattle.desk.specs.Rules.{Rules}
 use Rattle.console.specs.Dialogue.{Dialogue}
+use Rattle.console.specs.Reading.{Speaker}
 use Rattle.console.specs.Events.{Event, Read, ReadFailed, Answered, Wrote, WriteFailed, bytes_read, text_answered, bytes_written, read_by}
 use Rattle.console.specs.Events.{answered_by, written_by, read_failures, write_failures, OnlyAnswers}
 use Rattle.console.specs.Failures.{failures_reported}
-use Rattle.console.specs.Told.{EndsFor, EndsSince, GaveFirst, Tells, TellsWholeSince, reader_events, writer_events}
+use Rattle.console.specs.Told.{EndsFor, EndsSince, GaveFirst, HasTaken, IsTold, Streams, Tells, TellsBy, TellsWhole, TellsWholeSince, reader_events, writer_events}
 use Rattle.console.specs.declared.passed.Passed.{Passed}
 use Rattle.console.specs.Runs.{Start, HasRun}
 use Rattle.console.specs.Inside.Passing.{Follows, Leaves, Passes, PassesPart, Sent}
@@ -370,3 +371,20 @@ pub ended_of : {I O : Type 0} (passed : Passed I O) (turns : ℕ) (called called
 ended_of passed turns called called_now given given_now r uncalled ungiven calls gives so =
     subst (λ (q : List Event × List Event). EndsFor turns q.0 q.1 r)
     (λ i. ((sym (so.2 ∙ ap (λ l. l ++ so.0) uncalled) ∙ calls) i, (sym (so.3 ∙ ap (λ l. l ++ so.1) ungiven) ∙ gives) i)) so.4
+
+-- what is told of a run before which nothing was read and nothing had passed
+pub told_since : {A W : Type 0} (rules : Rules A W) (speaker : Speaker) (s t : W) (old new : Streams) (calls events : List Event) (r : Result Ran RunFault) →
+    {unread written now : Option (List ℕ)} → old.read ≡ [] → old.passed ≡ [] → new.read ≡ read_by calls → new.passed ≡ events →
+    old.unread ≡ unread → old.held ≡ written → new.held ≡ now → Tells A rules speaker s t old new r →
+    (IsErrOf r fault.Read → TellsWholeSince A rules speaker s t old new) → TellsBy A rules speaker unread written s t now r calls events
+told_since {A = A} rules speaker s t old new calls events r unread_yet unpassed_yet reads passes gives holds leaves told whole =
+    let given : told.0 ≡ read_by calls = sym (told.2 ∙ ap (λ l. l ++ told.0) unread_yet) ∙ reads in
+    let passed : told.1 ≡ events = sym (told.4 ∙ ap (λ l. l ++ told.1) unpassed_yet) ∙ passes in (
+      subst (λ (q : Option (List ℕ) × List ℕ). GaveFirst q.0 q.1) (λ i. (gives i, given i)) told.3,
+      subst (λ (q : Option (List ℕ) × List Event × Option (List ℕ)). HasTaken q.0 q.1 q.2) (λ i. (holds i, passed i, leaves i)) told.5,
+      subst (λ (q : List ℕ × List Event). IsTold A rules speaker s t q.0 q.1 r) (λ i. (given i, passed i)) told.6,
+      λ failed.
+          let all = whole failed in
+          subst (λ (q : List ℕ × List Event). TellsWhole A rules speaker s t q.0 q.1)
+          (λ i. ((sym (all.2 ∙ ap (λ l. l ++ all.0) unread_yet) ∙ reads) i, (sym (all.3 ∙ ap (λ l. l ++ all.1) unpassed_yet) ∙ passes) i)) all.4,
+    )

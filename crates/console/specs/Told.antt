@@ -113,3 +113,12 @@ reader_events passed = passed.by_reader.list
 -- the answers that were given, and the calls of its writer
 abbrev pub writer_events : {R W : Type 0} → Passed R W → List Event
 writer_events passed = passed.by_writer.list
+
+-- What is told of a run with this result by the calls of its reader and by what passed by its writer, whatever these are: what was read, and what
+-- was written after it was answered. Given are what the reader had left and the writer held before the run, the desk before and after it, and
+-- what the writer holds after it. If the bytes of the reader or of the writer are known, those that were read are the first of them, and those
+-- that were written follow them. Where the reader failed, or was called as often as it may be, every whole line is answered.
+abbrev pub TellsBy : (A : Type 0) {W : Type 0} → Rules A W → Speaker → Option (List Byte) → Option (List Byte) → W → W → Option (List Byte) → Result Ran RunFault → List Event → List Event → Type 0
+TellsBy A rules speaker unread written s t after result calls events =
+    GaveFirst unread (read_by calls) × HasTaken written events after × IsTold A rules speaker s t (read_by calls) events result
+    × (IsErrOf result fault.Read → TellsWhole A rules speaker s t (read_by calls) events)

@@ -2,7 +2,7 @@
 ghost use Rattle.std.specs.Prelude.{◌≡◌, ◌⊎◌, IsErrOf, ◌≤◌, ◌<◌, ◌+◌, true};
 ghost use Rattle.console.specs.Failures.{failures_reported};
 ghost use Rattle.console.specs.Runs.{IsRun, speaker_of};
-ghost use Rattle.console.specs.Told.{EndsFor, EndsSince, Tells, TellsWholeSince, calls_of, events_of, reader_events, streams_of, writer_events};
+ghost use Rattle.console.specs.Told.{EndsFor, EndsSince, Tells, TellsBy, TellsWholeSince, calls_of, events_of, reader_events, streams_of, writer_events};
 
 use crate::figures::ServiceFigures;
 use crate::input::Input;
@@ -32,7 +32,7 @@ pub struct Ran {
 #[derive(Clone, Copy, Debug, PartialEq, Eq, Error)]
 pub enum RunFault {
     /// The reader failed, or did not come to an end within `turns` calls. Every whole line that was read is answered. No clause of
-    /// [`run`] says so: those of [`run_counted`] do, and those of [`run_under`] say when this comes.
+    /// [`run`] says so: those of [`run_counted`] and [`run_under`] do.
     #[error("the lines can't be read")]
     Read,
     /// The writer failed.
@@ -153,6 +153,8 @@ fn run_in<
     ensures answers { IsRun A D.rules
         (record { speaker = speaker_of terms; world = D.world desk.old; unread = R.remaining reader.old; written = W.contents writer.old })
         (record { result = result.0; world = D.world desk.new; written = W.contents writer.new }) }
+    ensures told { TellsBy A D.rules (speaker_of terms) (R.remaining reader.old) (W.contents writer.old) (D.world desk.old) (D.world desk.new)
+        (W.contents writer.new) result.0 (reader_events result.1) (writer_events result.1) }
     ensures ends { EndsFor terms.turns (reader_events result.1) (writer_events result.1) result.0 }
 {
     let Blanks {
@@ -176,7 +178,8 @@ fn run_in<
 }
 
 /// Answers all lines of the reader, or the first of them if it ends early, and writes nothing else. It returns the result with the
-/// calls of the reader and the writer: `ends` says by these why the run ended, and that the reader is called at most `turns` times.
+/// calls of the reader and the writer. By these `told` says, over any reader and any writer, what was read, and what was written after
+/// it was answered; and `ends` why the run ended, and that the reader is called at most `turns` times.
 pub fn run_under<A: Allocator + Copy + Drop, R: Read, W: Write, D: Desk<A>>(
     terms: Terms<A>,
     reader: &mut R,
@@ -186,6 +189,8 @@ pub fn run_under<A: Allocator + Copy + Drop, R: Read, W: Write, D: Desk<A>>(
     ensures answers { IsRun A D.rules
         (record { speaker = speaker_of terms; world = D.world desk.old; unread = R.remaining reader.old; written = W.contents writer.old })
         (record { result = result.0; world = D.world desk.new; written = W.contents writer.new }) }
+    ensures told { TellsBy A D.rules (speaker_of terms) (R.remaining reader.old) (W.contents writer.old) (D.world desk.old) (D.world desk.new)
+        (W.contents writer.new) result.0 (reader_events result.1) (writer_events result.1) }
     ensures ends { EndsFor terms.turns (reader_events result.1) (writer_events result.1) result.0 }
 {
     let blanks = Blanks {

@@ -151,8 +151,16 @@ module _ {D : Type 0} (view : D → View) (base : State) where
           ];
         }
 
+  -- a life goes on with a run, and with a stop since any of its rounds
+  module _ (sound : (disk : D) → (view disk).honest → IsSound (view disk)) (from : State) (before : List (Event Global)) (first : FlusherView D)
+      (life : IsLife Global view from before (Open first.store)) where
     pub lived : (last : FlusherView D) → (first.store.broken ≡ false → first.store.register ≡ after base first.durable) → AreInOrder first.durable first.taker.taken
         → AreLasting view base first last → HasLived view base from before first last
     lived last was order lasting =
         let c = calls_of first last was order lasting in
-        record { events = c.0; calls = c.1; life = calls_live from before first c.0 last c.1 life; stops = (calls_stop c.0 last c.1).each }
+        record {
+          events = c.0;
+          calls = c.1;
+          life = calls_live from before first c.0 last c.1 life;
+          stops = λ mid done later earlier rest. (calls_stop sound from (done ++ before) mid (calls_live from before first done mid earlier life) later last rest).each;
+        }

@@ -3,10 +3,10 @@ use Rattle.std.specs.Prelude.{◌==◌, Some, slice_get}
 use Rattle.std.specs.List.{AllByRecursion}
 use Rattle.std.specs.declared.alloc.Global.{Global}
 use Rattle.std.proofs.Common.{◌≡◌, ◌⊎◌, ℕ, ◌+◌, ◌≤◌, inl, inr, Bool, true, false, cond, List, [], ◌∷◌, ◌++◌, length, take, drop, refl, ap, sym, ◌∙◌, subst}
-use Rattle.std.proofs.lemmas.List.{take-append-drop, take-append-le}
+use Rattle.std.proofs.lemmas.List.{append-nil, take-append-drop, take-append-le}
 use mathlib.Core.List.{IsPrefix}
 use Rattle.base.proofs.Lists.{some_beside}
-use Rattle.sector_disk.specs.Disk.{View}
+use Rattle.sector_disk.specs.Disk.{IsSound, View}
 use Rattle.sector_disk.specs.Run.{LeavesOnly}
 use Rattle.centre_core.specs.Asked.{Asked}
 use Rattle.centre_core.specs.State.{State}
@@ -24,10 +24,10 @@ use Rattle.flusher.specs.Lasting.{AreLasting, no_more, onward}
 use Rattle.flusher.specs.Rounds.{IsRound}
 use Rattle.flusher.specs.Served.{AreServedBy, IsSettled, decision_by}
 use Rattle.flusher.specs.Shared.{commands_among}
-use Rattle.flusher.specs.Since.{IsKeptSince, WasDurable}
-use Rattle.flusher.specs.Stored.{OpensBetween}
+use Rattle.flusher.specs.Since.{AreAllDurable, IsKeptSince, WasDurable}
+use Rattle.flusher.specs.Stored.{IsStoredFor, OpensBetween}
 use Rattle.flusher.specs.View.{FlusherView, Progress, progress_of}
-use Rattle.flusher.proofs.Between.{rounds_longer}
+use Rattle.flusher.proofs.Between.{now_between, rounds_longer}
 use Rattle.flusher.proofs.Borne.{sent_first}
 use Rattle.flusher.proofs.Lasting.{rounds_of}
 
@@ -119,12 +119,8 @@ module _ {D : Type 0} (view : D → View) (base : State) where
       each_durable borne.0 xs borne.4 each.1,
     )
 
-  -- each answer that these channels were sent
-  abbrev pub AreDurable : FlusherView D → List (AnswerSender Sent) → Type 0
-  AreDurable h senders = (k : ℕ) (a : AnswerSender Sent) → slice_get senders k ≡ Some a → AllByRecursion (WasDurable view base h) (sent_of a.pass)
-
   round_durable : (f g h : FlusherView D) → IsRound view base f g → IsSettled base g → IsPrefix g.durable h.durable → LeavesOnly (view g.store.disk) (view h.store.disk) (OpensBetween base g h)
-      → AreDurable h f.senders → AreDurable h g.senders
+      → AreAllDurable view base h f.senders → AreAllDurable view base h g.senders
   round_durable f g h r settled longer leaves each k b there =
       let t = (view g.store.disk).moment in
       let answers = r.served.answers in
@@ -139,8 +135,13 @@ module _ {D : Type 0} (view : D → View) (base : State) where
       each_durable g h longer leaves 0 (sent_of b.pass) (settled.sent k b there)
       (all_prefix Either (sent_of b.pass) (sent_of a.pass ++ mine) first (all_joined Either (sent_of a.pass) mine old new))
 
+  -- each answer that was sent in one round
+  pub last_durable : (f g : FlusherView D) → IsRound view base f g → IsSettled base g → ((view g.store.disk).honest → IsSound (view g.store.disk)) → IsStoredFor view base g
+      → AreAllDurable view base g f.senders → AreAllDurable view base g g.senders
+  last_durable f g r settled sound kept = round_durable f g g r settled ([], append-nil g.durable) (now_between view base g sound settled.made kept)
+
   -- each answer that was sent in these rounds
-  pub run_durable : (f h : FlusherView D) → AreLasting view base f h → AreDurable h f.senders → AreDurable h h.senders
+  pub run_durable : (f h : FlusherView D) → AreLasting view base f h → AreAllDurable view base h f.senders → AreAllDurable view base h h.senders
   run_durable f h (no_more x) each = each
   run_durable f h (onward x g y r settled keeps since rest) each =
       run_durable g y rest (round_durable x g y r settled (rounds_longer view base g y (rounds_of view base g y rest)) since each)

@@ -36,15 +36,16 @@ pub data AreCutShort : List (Event Global) → List (Event Global) → Type 0 wh
   in_last : (event : Event Global) (events : List (Event Global)) → AreCutShort (event ∷ events) (stopped event ∷ events)
   in_earlier : (event : Event Global) (events cut : List (Event Global)) → AreCutShort events cut → AreCutShort (event ∷ events) cut
 
--- A life of the disk came to the first flusher's store by these events, and goes on by rounds to the last one's. A stop at any moment in
--- between goes on with it too: the disk comes back with what the rounds before the stop did, and all or none of the round in which it came.
+-- A life of the disk came to the first flusher's store by these events, and goes on by rounds to the last one's, or by a stop. `mid` is the
+-- flusher after some of the rounds, or after none. After a stop at any moment since then the disk comes back with all that these did, so with
+-- all that was answered by then. Of the later rounds it has what those before the stop did, and all or none of the one in which it came.
 pub record HasLived {D : Type 0} (view : D → View) (base from : State) (before : List (Event Global)) (first last : FlusherView D) : Type 0 where
   pub events : List (Event Global)
   pub calls : AreCalls view base first events last
   pub life : IsLife Global view from (events ++ before) (Open last.store)
-  pub stops : (image : List (List Byte)) (disk : D) → (view last.store.disk).since (view first.store.disk).moment image
-      → ComesBack Global view image disk
-      → (cut : List (Event Global)) × AreCutShort events cut × IsLife Global view from (cut ++ before) (Closed disk)
+  pub stops : (mid : FlusherView D) (done later : List (Event Global)) → AreCalls view base first done mid → AreCalls view base mid later last
+      → (image : List (List Byte)) (disk : D) → (view last.store.disk).since (view mid.store.disk).moment image → ComesBack Global view image disk
+      → (cut : List (Event Global)) × AreCutShort later cut × IsLife Global view from (cut ++ (done ++ before)) (Closed disk)
 
 module _ {D : Type 0} (view : D → View) (base : State) where
   -- A life of the disk came to this flusher's store by these events. The register of a sound store is what the durable commands make, and

@@ -8,6 +8,7 @@ use Rattle.recovery.specs.Lives.{StoreView}
 use Rattle.recovery.specs.Outcomes.{OpensToEither}
 use Rattle.flusher.specs.Lasting.{AreLasting}
 use Rattle.flusher.specs.Lives.{IsSomeCall}
+use Rattle.flusher.specs.Since.{AreAllDurable}
 use Rattle.flusher.specs.Stored.{IsStoredFor, OpensBetween}
 use Rattle.flusher.specs.View.{FlusherView}
 
@@ -24,6 +25,8 @@ module _ {D : Type 0} (view : D → View) where
     pub stored : IsStoredFor view base g
     pub any_moment : f.store.broken ≡ false
         → LeavesOnly (view f.store.disk) (view g.store.disk) (OpensToEither Global f.store.register g.store.register)
+    -- each answer that was sent in the round was durable before, if each earlier one was
+    pub durable : AreAllDurable view base g f.senders → AreAllDurable view base g g.senders
 
   -- After rounds each image of the disk opens to what is durable, or once the disk has failed perhaps to more. After a stop at any moment of
   -- them, of a store that was sound before, it opens to a list between what was durable before and after them, and to no less than was durable
@@ -32,3 +35,5 @@ module _ {D : Type 0} (view : D → View) where
     pub lasting : AreLasting view base f g
     pub stored : IsStoredFor view base g
     pub any_moment : f.store.broken ≡ false → LeavesOnly (view f.store.disk) (view g.store.disk) (OpensBetween base f g)
+    -- each answer that was sent in these rounds was durable before, if each earlier one was
+    pub durable : AreAllDurable view base g f.senders → AreAllDurable view base g g.senders

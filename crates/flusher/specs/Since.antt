@@ -1,5 +1,6 @@
 -- What stays on the disk from a moment on, and that each answer was durable before it was sent.
-use Rattle.std.specs.Prelude.{◌≡◌, ◌⊎◌, ◌≤◌, ℕ, true, List, ◌++◌, take}
+use Rattle.std.specs.Prelude.{◌≡◌, ◌⊎◌, ◌≤◌, ℕ, true, List, ◌++◌, Some, slice_get, take}
+use Rattle.std.specs.List.{AllByRecursion}
 use Rattle.std.specs.declared.alloc.Global.{Global}
 use mathlib.Core.List.{IsPrefix}
 use Rattle.identity.specs.Numbers.{Byte}
@@ -9,6 +10,8 @@ use Rattle.centre_core.specs.Asked.{Asked}
 use Rattle.centre_core.specs.State.{State}
 use Rattle.centre_core.specs.History.{after}
 use Rattle.recovery.specs.OpensTo.{OpensTo}
+use Rattle.answers.specs.declared.channel.AnswerSender.{AnswerSender}
+use Rattle.answers.specs.Views.{sent_of}
 use Rattle.flusher.specs.Borne.{IsBorneAt}
 use Rattle.flusher.specs.Stages.{Sent}
 use Rattle.flusher.specs.Stored.{AreUnderWay}
@@ -31,3 +34,7 @@ pub record IsKeptSince {D : Type 0} (view : D → View) (base : State) (f : Flus
 -- image that opens to that prefix, or to more.
 abbrev pub WasDurable : {D : Type 0} → (D → View) → State → FlusherView D → Sent → Type 0
 WasDurable view base f x = (place : ℕ) × IsBorneAt base f.durable place x × IsKeptSince view base f x.moment (take place f.durable)
+
+-- each answer that these channels were sent was durable before it was sent
+abbrev pub AreAllDurable : {D : Type 0} → (D → View) → State → FlusherView D → List (AnswerSender Sent) → Type 0
+AreAllDurable view base f senders = (k : ℕ) (a : AnswerSender Sent) → slice_get senders k ≡ Some a → AllByRecursion (WasDurable view base f) (sent_of a.pass)

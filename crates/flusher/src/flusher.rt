@@ -72,7 +72,8 @@ impl<J: Centre, D: Disk> Flusher<J, D> {
 
         // It is a call in the life of the disk. Each image of the disk opens to what is durable, or once the disk has failed
         // perhaps to more. After a stop at any moment of the round, of a sound store, it opens to the register before the round
-        // or to the one after it. Only a failure of the disk breaks the store.
+        // or to the one after it. What bears out an answer was durable before it was sent. Only a failure of the disk breaks the
+        // store.
         ensures stored { IsStoredFor D.view J.base (view_of self.old) → IsRoundStored D.view J.base (view_of self.old) (view_of self.new) }
         ensures breaks { BreaksByDisk D.view (view_of self.old).store (view_of self.new).store }
     {

@@ -27,7 +27,7 @@ impl<J: Centre, D: Disk> Flusher<J, D> {
 
         // Each image of the disk opens to what is durable, or once the disk has failed perhaps to more. After a stop at any moment
         // of the run it opens to a list between what was durable before and after it, and to no less than was durable at the end
-        // of the round before. Only a failure of the disk breaks the store.
+        // of the round before. What bears out an answer was durable before it was sent. Only a failure of the disk breaks the store.
         ensures stored { IsStoredFor D.view J.base (view_of self.old) → AreRoundsStored D.view J.base (view_of self.old) (view_of self.new) }
         ensures breaks { BreaksByDisk D.view (view_of self.old).store (view_of self.new).store }
 

@@ -1,37 +1,37 @@
 //! The runs of stations beside one another, on one disk.
-ghost use Rattle.std.specs.Prelude.{◌≡◌, IfErr, IfOk, false, length};
+ghost use Rattle.std.specs.Prelude.{◌≡◌, IfErr, IfOk, cond, false, length, vec_len};
+ghost use Rattle.flusher.specs.Opened.{has_place};
+ghost use Rattle.flusher.specs.declared.opening.CentreFault.TheVariants.{NoMemory, NoPlace};
 ghost use Rattle.recovery.specs.Lives.{view_of as store_view};
-ghost use Rattle.served_disk.specs.declared.fault.Fault.TheVariants.{Memory};
 ghost use Rattle.served_disk.specs.Stations.{AreServed};
 
-use crate::Fault;
 use crate::serving::Served;
 use recovery::Store;
 use sector_disk::Disk;
 use snapshots::Centre;
-use stations::{ManyTerms, Port, Watch, run_many};
+use stations::{ManyTerms, Port, Unserved, Watch, run_many};
 use std::alloc::Global;
 use std::io::{Read, Write};
 use std::rt::Clock;
 use std::sync::Wait;
 use std::thread::Threads;
 
-/// Closes the disk of a store, and returns whether it failed.
-fn close_disk<D: Disk + Drop>(store: Store<Global, D>) -> bool
-    ensures { result ≡ store.broken }
+/// The disk of a store, and whether it failed. Nothing more is done to it.
+fn disk_of<D: Disk>(store: Store<Global, D>) -> (D, bool)
+    ensures disk { result.0 ≡ store.disk }
+    ensures broken { result.1 ≡ store.broken }
 {
     let is_broken = store.register().is_none();
-    drop(store);
-    is_broken
+    (store.into_disk(), is_broken)
 }
 
 /// Answers the lines of stations 1, 2 and so on over the store, each to the writer of its port. If a station's run ends early,
-/// only a prefix of its lines is answered. The disk is closed when all have ended.
+/// only a prefix of its lines is answered. When all have ended, the disk comes back.
 ///
 /// # Errors
-/// `Memory`, also for a number of ports that has no place. No clause says that no line was read.
+/// `NoPlace` exactly for a number of ports that is not from 1 to the register's limit of stations. `NoMemory` comes before the first
+/// station's thread. Either way no line was read and nothing was written: the store and the ports come back as they were.
 pub fn serve_stations<
-    'a,
     J: Centre + Send + Sync,
     D: Disk + Drop,
     R: Threads + Wait + Clock + Sync,
@@ -44,21 +44,19 @@ pub fn serve_stations<
     store: Store<Global, D>,
     ports: Vec<Port<I, O>>,
     watch: &V,
-) -> Result<Served<I, O>, Fault<'a>>
+) -> Result<Served<D, I, O>, Unserved<D, I, O>>
     requires sound { store.broken ≡ false }
     requires centre { (terms.log.seen.book ≡ J.book) × (store.register ≡ J.base) }
     ensures served { IfOk result (AreServed D.view J J.base terms.entry.orders terms.entry.turns I.remaining O.contents (store_view store) ports.items) }
     ensures all { IfOk result (λ served. length served.runs.items ≡ length ports.items) }
-    ensures fault { IfErr result (λ fault. fault ≡ Memory) }
+    ensures fault { IfErr result (λ e. e.fault ≡ cond (has_place store.register.registered.limits.stations (vec_len ports)) NoMemory NoPlace) }
+    ensures same { IfErr result (λ e. (e.store ≡ store) × (e.ports ≡ ports)) }
 {
-    match run_many::<J, D, R, I, O, V>(rt, terms, store, ports, watch) {
-        Ok(many) => Ok(Served {
-            runs: many.runs,
-            is_broken: close_disk(many.store),
-        }),
-        Err((_, store)) => {
-            drop(store);
-            Err(Fault::Memory)
-        }
-    }
+    let many = run_many::<J, D, R, I, O, V>(rt, terms, store, ports, watch)?;
+    let (disk, is_broken) = disk_of(many.store);
+    Ok(Served {
+        disk,
+        runs: many.runs,
+        is_broken,
+    })
 }

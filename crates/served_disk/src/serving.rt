@@ -16,7 +16,9 @@ pub const TURNS: u32 = u32::MAX;
 
 /// How the runs of stations have ended.
 #[derive(Drop)]
-pub struct Served<I, O: Drop> {
+pub struct Served<D, I, O: Drop> {
+    /// The disk, as the last call of the store left it.
+    pub disk: D,
     /// The run of each station, in order.
     pub runs: Vec<StationRun<I, O>>,
     /// Whether the disk failed.
@@ -70,9 +72,9 @@ fn ended<'a, I, O: Drop>(
 
 /// How a run of stations has ended: with a disk that failed; else with the first fault, in order of station; else with whether an
 /// answer reported trouble.
-pub fn outcome<'a, I, O: Drop>(
+pub fn outcome<'a, D, I, O: Drop>(
     names: &[PortNames<'a>],
-    served: &Served<I, O>,
+    served: &Served<D, I, O>,
 ) -> Result<bool, Fault<'a>>
     requires same { length names.now ≡ length served.now.runs.items }
     ensures { MatchBool served.now.is_broken (result ≡ Err Device) (HaveEnded names.now served.now.runs.items result) }
@@ -95,9 +97,9 @@ fn end_status(ended: &Result<bool, Fault<'_>>) -> u8
 
 /// How a service ends, after its stations have reported their faults: with a disk that failed; else with the exit status of the
 /// first fault, in order of station; else with 1 if an answer reported trouble, or 0.
-pub fn service_outcome<'a, I, O: Drop>(
+pub fn service_outcome<'a, D, I, O: Drop>(
     names: &[PortNames<'a>],
-    served: &Served<I, O>,
+    served: &Served<D, I, O>,
 ) -> Result<u8, Fault<'a>>
     requires same { length names.now ≡ length served.now.runs.items }
     ensures { MatchBool served.now.is_broken (result ≡ Err Device) (HasServiceEnded names.now served.now.runs.items result) }

@@ -1,6 +1,6 @@
 -- Runs of one station.
 use Rattle.std.proofs.Common.{◌≡◌, ℕ, Bool, List, [], ◌∷◌, ◌++◌, refl, ap, sym, ◌∙◌, subst, arith}
-use Rattle.std.specs.Prelude.{Option, Some, Result, Err}
+use Rattle.std.specs.Prelude.{IsErrOf, Option, Some, Result, Err}
 use Rattle.std.proofs.lemmas.List.{append-nil}
 use Rattle.std.specs.Str.Lines.{lines}
 use Rattle.std.specs.declared.alloc.Global.{Global}
@@ -10,15 +10,15 @@ use Rattle.centre_core.specs.State.{State}
 use Rattle.console.specs.Reading.{Speaker}
 use Rattle.console.specs.Events.{Event, OnlyAnswers, read_by}
 use Rattle.console.specs.Runs.{IsRun}
-use Rattle.console.specs.Told.{EndsFor, EndsSince, GaveFirst, HasTaken, IsTold, Streams, Tells, reader_events, writer_events}
+use Rattle.console.specs.Told.{EndsFor, Streams, Tells, TellsBy, TellsWholeSince, reader_events, writer_events}
 use Rattle.console.specs.declared.passed.Passed.{Passed}
 use Rattle.console.specs.declared.running.Ran.{Ran}
 use Rattle.console.specs.declared.running.RunFault.{RunFault}
-use Rattle.console.specs.declared.running.RunFault.TheVariants.{NoMemory}
+use Rattle.console.specs.declared.running.RunFault.TheVariants.{NoMemory, Read}
 use Rattle.flusher.specs.Submitted.{SessionView}
-use Rattle.stations.specs.OfSession.{of_session}
+use Rattle.stations.specs.OfSession.{AtSession, of_session}
 use Rattle.stations.specs.Done.{IsRunOf, IsToldOf}
-use Rattle.console.proofs.Told.{ends_without}
+use Rattle.console.proofs.Told.{ends_without, told_since}
 
 module _ (J : Type 0) (base : State) where
   -- the station at the end is the one of the beginning
@@ -48,15 +48,21 @@ module _ (J : Type 0) (base : State) where
       other ≡ station → old.unread ≡ unread → old.held ≡ written → new.held ≡ now → old.read ≡ [] → old.passed ≡ [] → new.read ≡ read_by (reader_events passed) → new.passed ≡ writer_events passed →
       Tells Global (of_session J base may_order) (record { station = station; orders = may_order })
       (record { station = station; view = s }) (record { station = other; view = t }) old new r →
+      (IsErrOf r Read → TellsWholeSince Global (of_session J base may_order) (record { station = station; orders = may_order })
+      (record { station = station; view = s }) (record { station = other; view = t }) old new) →
       IsToldOf J base (record { station = station; orders = may_order }) unread written passed s t now r
-  told_of passed station may_order s t r old new {unread = unread} {written = written} {now = now} {other = other} same gives holds leaves unread_yet unpassed_yet reads passes told =
-      let given : told.0 ≡ read_by (reader_events passed) = sym (told.2 ∙ ap (λ l. l ++ told.0) unread_yet) ∙ reads in
-      let events : told.1 ≡ writer_events passed = sym (told.4 ∙ ap (λ l. l ++ told.1) unpassed_yet) ∙ passes in (
-        subst (λ (q : Option (List Byte) × List Byte). GaveFirst q.0 q.1) (λ i. (gives i, given i)) told.3,
-        subst (λ (q : Option (List Byte) × List Event × Option (List Byte)). HasTaken q.0 q.1 q.2) (λ i. (holds i, events i, leaves i)) told.5,
-        subst (λ (q : Station × List Byte × List Event). IsTold Global (of_session J base may_order) (record { station = station; orders = may_order })
-            (record { station = station; view = s }) (record { station = q.0; view = t }) q.1 q.2 r) (λ i. (same i, given i, events i)) told.6,
-      )
+  told_of passed station may_order s t r old new same gives holds leaves unread_yet unpassed_yet reads passes told whole =
+      let rules = of_session J base may_order in
+      let speaker : Speaker = record { station = station; orders = may_order } in
+      let at : Station → SessionView → AtSession = λ k v. record { station = k; view = v } in
+      told_since rules speaker (at station s) (at station t) old new (reader_events passed) (writer_events passed) r unread_yet unpassed_yet reads passes gives holds leaves
+      (subst (λ (k : Station). Tells Global rules speaker (at station s) (at k t) old new r) same told)
+      (λ failed. subst (λ (k : Station). TellsWholeSince Global rules speaker (at station s) (at k t) old new) same (whole failed))
+
+  -- what is told of a run by these calls of its reader and what passed by its writer
+  abbrev TellsIn : Speaker → Option (List Byte) → Option (List Byte) → SessionView → SessionView → Option (List Byte) → Result Ran RunFault → List Event → List Event → Type 0
+  TellsIn speaker unread written s t now r calls events =
+      TellsBy Global (of_session J base speaker.orders) speaker unread written (record { station = speaker.station; view = s }) (record { station = speaker.station; view = t }) now r calls events
 
   -- the same of what passed by another writer, if these are the same events
   pub told_within : {I V O : Type 0} (passed : Passed I V) (within : Passed I O) (speaker : Speaker) (unread written : Option (List Byte)) (s t : SessionView) →
@@ -64,17 +70,13 @@ module _ (J : Type 0) (base : State) where
       reader_events within ≡ reader_events passed → writer_events within ≡ writer_events passed →
       IsToldOf J base speaker unread written passed s t now r → IsToldOf J base speaker unread written within s t now r
   told_within passed within speaker unread written s t now r reads writes told =
-      subst (λ (q : List Event × List Event). GaveFirst unread (read_by q.0) × HasTaken written q.1 now
-      × IsTold Global (of_session J base speaker.orders) speaker (record { station = speaker.station; view = s }) (record { station = speaker.station; view = t }) (read_by q.0) q.1 r)
-      (λ i. (sym reads i, sym writes i)) told
+      subst (λ (q : List Event × List Event). TellsIn speaker unread written s t now r q.0 q.1) (λ i. (sym reads i, sym writes i)) told
 
   -- nothing was read and nothing passed when memory runs out
   pub told_nothing : {I O : Type 0} (passed : Passed I O) (speaker : Speaker) (unread written : Option (List Byte)) (s : SessionView) → reader_events passed ≡ [] → writer_events passed ≡ [] →
       IsToldOf J base speaker unread written passed s s written (Err NoMemory)
   told_nothing passed speaker unread written s unread_yet unpassed_yet =
-      subst (λ (q : List Event × List Event). GaveFirst unread (read_by q.0) × HasTaken written q.1 written
-      × IsTold Global (of_session J base speaker.orders) speaker (record { station = speaker.station; view = s }) (record { station = speaker.station; view = s }) (read_by q.0) q.1 (Err NoMemory))
-      (λ i. (sym unread_yet i, sym unpassed_yet i)) (
+      subst (λ (q : List Event × List Event). TellsIn speaker unread written s s written (Err NoMemory) q.0 q.1) (λ i. (sym unread_yet i, sym unpassed_yet i)) (
         λ all known. (all, refl),
         λ held known. known ∙ ap Some (sym (append-nil held)),
         (
@@ -86,18 +88,12 @@ module _ (J : Type 0) (base : State) where
             refl,
           ),
         ),
+        λ failed. absurd cc,
       )
     where
       no_moment : OnlyAnswers []
       no_moment [] after parts = ([], refl)
       no_moment (e ∷ before) after parts = absurd cc
-
--- why a run ended in which this passed from the beginning
-pub ended_of : {I O : Type 0} (passed : Passed I O) (turns : ℕ) (called called_now given given_now : List Event) (r : Result Ran RunFault) → called ≡ [] → given ≡ [] →
-    called_now ≡ reader_events passed → given_now ≡ writer_events passed → EndsSince turns called called_now given given_now r → EndsFor turns (reader_events passed) (writer_events passed) r
-ended_of passed turns called called_now given given_now r uncalled ungiven calls gives so =
-    subst (λ (q : List Event × List Event). EndsFor turns q.0 q.1 r)
-    (λ i. ((sym (so.2 ∙ ap (λ l. l ++ so.0) uncalled) ∙ calls) i, (sym (so.3 ∙ ap (λ l. l ++ so.1) ungiven) ∙ gives) i)) so.4
 
 -- out of memory before the first call
 pub ended_nothing : {I O : Type 0} (passed : Passed I O) (turns : ℕ) → reader_events passed ≡ [] → writer_events passed ≡ [] →

@@ -33,7 +33,7 @@ use Rattle.flusher.specs.Order.{of_station}
 use Rattle.flusher.specs.Runs.{HasSameEnds}
 use Rattle.flusher.specs.Sessions.{view_of as session_view}
 use Rattle.flusher.specs.Shared.{commands_among}
-use Rattle.flusher.specs.Since.{WasDurable}
+use Rattle.flusher.specs.Since.{AreAllDurable, WasDurable}
 use Rattle.flusher.specs.Stages.{Sent}
 use Rattle.flusher.specs.Stored.{IsStoredFor, OpensBetween}
 use Rattle.flusher.specs.Submitted.{SessionView}
@@ -41,7 +41,7 @@ use Rattle.flusher.specs.View.{FlusherView}
 use Rattle.flusher.specs.declared.session.Ended.{Ended}
 use Rattle.flusher.specs.declared.session.Session.{Session}
 use Rattle.flusher.proofs.Batched.{commands_among-append}
-use Rattle.flusher.proofs.Since.{AreDurable, all_prefix, run_durable}
+use Rattle.flusher.proofs.Since.{all_prefix, run_durable}
 use Rattle.flusher.proofs.Sessions.{finished_sessions, opened_sessions, still_sessions}
 use Rattle.stations.specs.declared.job.Done.{Done}
 use Rattle.stations.specs.declared.job.Job.{Job}
@@ -239,13 +239,13 @@ module _ {J I O : Type 0} (base : State) (unread : I → Option (List Byte)) (wr
         (prefix_trans (received_of d.0.ended.receiver.pass) (sent_of a.0.pass) mine (closed.each k a.0 d.0.ended a.1 there).received (subst (λ l. IsPrefix (sent_of a.0.pass) (l ++ mine)) none sent))
 
     -- a new flusher has sent nothing
-    none_durable : (disk : D → View) → AreDurable disk base last first.senders
+    none_durable : (disk : D → View) → AreAllDurable disk base last first.senders
     none_durable disk k a at =
         let s = some_beside sessions first.senders k a (sym new.count) at in
         subst (λ (l : List Sent). AllByRecursion (WasDurable disk base last) l) (sym (new.each k a s.0 at s.1).channel.1) tt
 
     -- each answer that a session received is one that was sent to it
-    each_durable : (disk : D → View) → AreDurable disk base last last.senders → IsClosed base last (map (λ (d : Done J I O). d.ended) done) →
+    each_durable : (disk : D → View) → AreAllDurable disk base last last.senders → IsClosed base last (map (λ (d : Done J I O). d.ended) done) →
         AreSessionsOf last (map (λ (d : Done J I O). d.ended) done) →
         (k : ℕ) (view : SessionView) → slice_get (views_of jobs done all) k ≡ Some view → AllByRecursion (WasDurable disk base last) view.received
     each_durable disk sent closed are k view at_view =

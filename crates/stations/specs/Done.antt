@@ -9,9 +9,8 @@ use Rattle.centre_core.specs.State.{State}
 use Rattle.station_queue.specs.Ends.{sending}
 use Rattle.station_queue.specs.declared.entry.Entry.TheVariants as entry
 use Rattle.console.specs.Reading.{Speaker}
-use Rattle.console.specs.Events.{read_by}
 use Rattle.console.specs.Runs.{IsRun}
-use Rattle.console.specs.Told.{EndsFor, GaveFirst, HasTaken, IsTold, reader_events, writer_events}
+use Rattle.console.specs.Told.{EndsFor, TellsBy, reader_events, writer_events}
 use Rattle.console.specs.declared.passed.Passed.{Passed}
 use Rattle.console.specs.declared.running.Ran.{Ran}
 use Rattle.console.specs.declared.running.RunFault.{RunFault}
@@ -37,14 +36,11 @@ module _ (J : Type 0) (base : State) where
       (record { speaker = speaker; world = record { station = speaker.station; view = s }; unread = unread; written = written })
       (record { result = ran; world = record { station = speaker.station; view = t }; written = after })
 
-  -- What is told of a run (`IsRunOf`), whatever the reader and the writer are. Given is what passed in it: the bytes that were
-  -- read are those that the calls of its reader gave, and what was written after it was answered is what passed by its writer.
-  -- If the bytes of the reader or of the writer are known, these are the first of them, or follow them.
+  -- What is told of a run (`IsRunOf`) in which this passed, whatever the reader and the writer are.
   abbrev pub IsToldOf : {I O : Type 0} → Speaker → Option (List Byte) → Option (List Byte) → Passed I O → SessionView → SessionView → Option (List Byte) → Result Ran RunFault → Type 0
   IsToldOf speaker unread written passed s t after ran =
-      GaveFirst unread (read_by (reader_events passed)) × HasTaken written (writer_events passed) after
-      × IsTold Global (of_session J base speaker.orders) speaker
-      (record { station = speaker.station; view = s }) (record { station = speaker.station; view = t }) (read_by (reader_events passed)) (writer_events passed) ran
+      TellsBy Global (of_session J base speaker.orders) speaker unread written
+      (record { station = speaker.station; view = s }) (record { station = speaker.station; view = t }) after ran (reader_events passed) (writer_events passed)
 
   module _ {I O : Type 0} (unread : I → Option (List Byte)) (written : O → Option (List Byte)) where
     -- A session answered the lines of its port and then ended, and this came of it. `last` is the session after the run, which submitted no

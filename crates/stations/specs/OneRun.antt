@@ -5,7 +5,7 @@ use Rattle.identity.specs.Numbers.{Byte}
 use Rattle.centre_core.specs.State.{State}
 use Rattle.console.specs.Failures.{failures_reported}
 use Rattle.console.specs.Runs.{IsRun}
-use Rattle.console.specs.Told.{EndsSince, Streams, Tells, calls_of, events_of, streams_of}
+use Rattle.console.specs.Told.{EndsSince, Streams, Tells, TellsWholeSince, calls_of, events_of, streams_of}
 use Rattle.console.specs.declared.input.Input.{Input}
 use Rattle.console.specs.declared.output.Output.{Output}
 use Rattle.console.specs.declared.running.Ran.{Ran}
@@ -28,6 +28,12 @@ abbrev pub IsToldBy : (J : Type 0) → State → Bool → Session J → Streams 
 IsToldBy J base may_order s before result t after =
     Tells Global (of_session J base may_order) (record { station = s.sender.station; orders = may_order }) (at_session s) (at_session t) before after result
 
+-- Every whole line that was read in a run is answered, and every answer was written. Given are the session and the streams before the run, and
+-- after it.
+abbrev pub IsWholeBy : (J : Type 0) → State → Bool → Session J → Streams → Session J → Streams → Type 0
+IsWholeBy J base may_order s before t after =
+    TellsWholeSince Global (of_session J base may_order) (record { station = s.sender.station; orders = may_order }) (at_session s) (at_session t) before after
+
 module _ {J I O L F G : Type 0} where
   -- The session answered lines from this input to this output, by at most so many calls of the reader. Given are the session, the input and
   -- the output before the run, and the last two after it; the result is the session after it, and how it ended.
@@ -37,6 +43,8 @@ module _ {J I O L F G : Type 0} where
     pub answers : IsRunBy J base may_order session (unread input.reader.now) (written output.writer.now) result.1 result.0 (written output_now.writer.now)
     -- over any reader and any writer: what was read, and what was written after it was answered
     pub told : IsToldBy J base may_order session (streams_of unread written input output) result.1 result.0 (streams_of unread written input_now output_now)
+    -- where the reader failed, or was called as often as it may be
+    pub whole : IsErrOf result.1 fault.Read → IsWholeBy J base may_order session (streams_of unread written input output) result.0 (streams_of unread written input_now output_now)
     -- why it ended, by the calls of the reader and the writer
     pub ends : EndsSince turns (calls_of input) (calls_of input_now) (events_of output) (events_of output_now) result.1
 

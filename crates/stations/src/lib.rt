@@ -18,7 +18,7 @@ mod station_text;
 mod station_threads;
 mod watch;
 
-pub use many_stations::{Many, ManyTerms, run_many};
+pub use many_stations::{Many, ManyTerms, Unserved, run_many};
 pub use one_station::{Serving, run_session};
 pub use orders::Orders;
 pub use port::Port;

@@ -57,6 +57,31 @@ pub struct Many<D: Disk, I, O: Drop> {
     pub runs: Vec<StationRun<I, O>>,
 }
 
+/// What comes back where no station was served.
+#[derive(Drop)]
+pub struct Unserved<D: Disk, I: Drop, O: Drop> {
+    /// Why none was.
+    pub fault: CentreFault,
+    /// The store, as it was.
+    pub store: Store<Global, D>,
+    /// The ports, as they were.
+    pub ports: Vec<Port<I, O>>,
+}
+
+impl<D: Disk, I: Drop, O: Drop> Unserved<D, I, O> {
+    fn by(fault: CentreFault, store: Store<Global, D>, ports: Vec<Port<I, O>>) -> Self
+        ensures fault { result.fault ≡ fault }
+        ensures store { result.store ≡ store }
+        ensures ports { result.ports ≡ ports }
+    {
+        Unserved {
+            fault,
+            store,
+            ports,
+        }
+    }
+}
+
 /// What each port is served under.
 #[derive(Drop)]
 struct PortTerms<'o> {
@@ -254,7 +279,7 @@ fn service_of(
 /// memory before its first line (tested).
 ///
 /// `NoPlace` comes exactly if the number of ports is not from 1 to the register's limit of stations. This call's own `NoMemory` comes
-/// before the first thread, and the store then comes back as it was. A station's run takes its memory in its thread.
+/// before the first thread. After either the store and the ports come back as they were. A station's run takes its memory in its thread.
 pub fn run_many<
     J: Centre + Send + Sync,
     D: Disk + Drop,
@@ -268,21 +293,21 @@ pub fn run_many<
     store: Store<Global, D>,
     ports: Vec<Port<I, O>>,
     watch: &V,
-) -> Result<Many<D, I, O>, (CentreFault, Store<Global, D>)>
+) -> Result<Many<D, I, O>, Unserved<D, I, O>>
     requires sound { store.broken ≡ false }
     requires centre { (terms.log.seen.book ≡ J.book) × (store.register ≡ J.base) }
 
     // How each station's lines were answered and why its run ended, and what became of the store. A station that may give no orders gave none.
     ensures served { IfOk result (CameOfServing D.view J J.base terms.entry.orders terms.entry.turns I.remaining O.contents (store_view store) ports.items) }
 
-    // Which fault comes, and that the store comes back as it was.
+    // Which fault comes, and that the store and the ports come back as they were.
     ensures place { IfOk result (λ many. has_place store.register.registered.limits.stations (vec_len ports) ≡ true) }
-    ensures fault { IfErr result (λ e. e.0 ≡ cond (has_place store.register.registered.limits.stations (vec_len ports)) NoMemory NoPlace) }
-    ensures same { IfErr result (λ e. e.1 ≡ store) }
+    ensures fault { IfErr result (λ e. e.fault ≡ cond (has_place store.register.registered.limits.stations (vec_len ports)) NoMemory NoPlace) }
+    ensures same { IfErr result (λ e. (e.store ≡ store) × (e.ports ≡ ports)) }
 {
     let stations = ports.len();
     if !has_place(register_of(&store), stations) {
-        return Err((CentreFault::NoPlace, store));
+        return Err(Unserved::by(CentreFault::NoPlace, store, ports));
     }
     let ManyTerms {
         alloc,
@@ -293,10 +318,10 @@ pub fn run_many<
     } = terms;
     let start = figures_of(&store);
     let Ok(service) = service_of(alloc, stations, &start, syncs) else {
-        return Err((CentreFault::NoMemory, store));
+        return Err(Unserved::by(CentreFault::NoMemory, store, ports));
     };
     let Ok(room) = room_for(alloc, stations) else {
-        return Err((CentreFault::NoMemory, store));
+        return Err(Unserved::by(CentreFault::NoMemory, store, ports));
     };
     match open_centre::<J, D, R>(rt, alloc, log, store, stations) {
         Ok(opened) => {
@@ -313,6 +338,6 @@ pub fn run_many<
             let terms = PortTerms { orders, turns };
             Ok(serve_opened(&shared, opened, ports, terms, room))
         }
-        Err(fault) => Err(fault),
+        Err((fault, store)) => Err(Unserved::by(fault, store, ports)),
     }
 }

@@ -174,8 +174,8 @@ fn both<'a, J: Centre + Send + Sync, R: Threads + Wait + Clock + Sync>(
     .ok()?;
     match run_many::<J, WatchedDisk, R, Line, Vec<u8>, Stages>(rt, terms, store, ports, stages) {
         Ok(many) => Some(many),
-        Err(fault) => {
-            drop(fault);
+        Err(unserved) => {
+            drop(unserved);
             None
         }
     }

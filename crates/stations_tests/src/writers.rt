@@ -183,8 +183,8 @@ fn both<J: Centre + Send + Sync, R: Threads + Wait + Clock + Sync>(
     .ok()?;
     match run_many::<J, WatchedDisk, R, Lines, Failing, Shown>(rt, terms, store, ports, shown) {
         Ok(many) => Some(many),
-        Err(fault) => {
-            drop(fault);
+        Err(unserved) => {
+            drop(unserved);
             None
         }
     }

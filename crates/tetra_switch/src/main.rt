@@ -404,9 +404,10 @@ fn run_files<'a, R: Threads + Wait + Sync + Clock + Print + Eprint + Files<File 
     report(rt, &names, &served, &progress)
 }
 
-/// Serves the lines of each port as those of stations 1, 2 and so on, over the store.
+/// Serves the lines of each port as those of stations 1, 2 and so on, over the store. It is out of memory before the first line.
 fn serve_ports<
     'a,
+    's,
     R: Threads + Wait + Clock + Sync,
     I: Read + Send + Drop,
     O: Write + Send + Drop,
@@ -414,10 +415,10 @@ fn serve_ports<
 >(
     rt: &R,
     terms: ManyTerms<'_>,
-    store: Store<Global, ServedFile<'_>>,
+    store: Store<Global, ServedFile<'s>>,
     ports: Vec<Port<I, O>>,
     watch: &V,
-) -> Result<Served<I, O>, Fault<'a>>
+) -> Result<Served<ServedFile<'s>, I, O>, Fault<'a>>
     requires sound { store.broken ≡ false }
     ensures all { IfOk result (λ served. length served.runs.items ≡ length ports.items) }
     ensures fault { IfErr result (λ fault. fault ≡ Memory) }
@@ -426,14 +427,20 @@ fn serve_ports<
     ensures ends { IfOk result (λ served. (k : ℕ) (run : StationRun I O) → slice_get served.runs.items k ≡ Some run
         → EndsFor terms.entry.turns (reader_events run.passed) (writer_events run.passed) run.ran) }
 {
-    serve_stations::<Brand, ServedFile<'_>, R, I, O, V>(rt, terms, store, ports, watch)
+    match serve_stations::<Brand, ServedFile<'s>, R, I, O, V>(rt, terms, store, ports, watch) {
+        Ok(served) => Ok(served),
+        Err(unserved) => {
+            drop(unserved);
+            Err(Fault::Memory)
+        }
+    }
 }
 
 /// Prints the last figures and the answers of each station, and returns how all have ended.
-fn report<'a, R: Clock + Print + Eprint, I>(
+fn report<'a, R: Clock + Print + Eprint, D, I>(
     rt: &R,
     names: &[PortNames<'a>],
-    served: &Served<I, Vec<u8>>,
+    served: &Served<D, I, Vec<u8>>,
     progress: &Progress<'_, R>,
 ) -> Result<bool, Fault<'a>>
     requires same { length names.now ≡ length served.now.runs.items }

@@ -1,9 +1,9 @@
 use Rattle.std.proofs.Common.{◌∙◌, Bool, subst, sym}
 use Rattle.std.specs.declared.alloc.Global.{Global}
 use Rattle.console.specs.Runs.{IsRun}
-use Rattle.console.specs.Told.{Tells, streams_of}
+use Rattle.console.specs.Told.{Tells, TellsWholeSince, streams_of}
 use Rattle.stations.specs.OfSession.{at_session, of_session}
-use Rattle.stations.proofs.OneRun.{run_by, told_by}
+use Rattle.stations.proofs.OneRun.{run_by, told_by, whole_by}
 use Rattle.stations.proofs.one_station.run_begun.Goals as goal
 
 pub returns-clause-lines : goal.returns-clause-lines
@@ -33,6 +33,13 @@ returns-clause-lines g c =
           (subst (λ (o : Bool). Tells Global (of_session g.row.J.Denot g.J.Centre.base o) (record { station = c.station.result; orders = c.args.serving.now.orders })
           (at_session c.new-desk.result) (at_session c.run_counted-ran.new.desk) before after c.run_counted-ran.result)
           (sym c.requires.orders) c.run_counted-ran.ensures.told);
+      whole = λ failed.
+          whole_by g.row.J.Denot g.J.Centre.base c.args.serving.now.orders before after c.station.result
+          c.new-desk.result c.args.session c.run_counted-ran.new.desk c.into_session.result
+          c.station.ensures c.new-desk.ensures (sym c.into_session.ensures.same)
+          (subst (λ (o : Bool). TellsWholeSince Global (of_session g.row.J.Denot g.J.Centre.base o) (record { station = c.station.result; orders = c.args.serving.now.orders })
+          (at_session c.new-desk.result) (at_session c.run_counted-ran.new.desk) before after)
+          (sym c.requires.orders) (c.run_counted-ran.ensures.whole failed));
       ends = c.run_counted-ran.ensures.ends;
     }
 

@@ -1,9 +1,10 @@
 use Rattle.std.proofs.Common.{inl, inr, true≢false, refl, sym, ◌∙◌, arith}
 use Rattle.flusher.specs.View.{view_of}
-use Rattle.flusher.specs.Lasting.{no_more}
+use Rattle.flusher.specs.Lasting.{AreLasting, no_more}
 use Rattle.flusher.specs.Runs.{none}
 use Rattle.flusher.proofs.Between.{none_between, one_more_between, one_more_failed}
 use Rattle.flusher.proofs.Lasting.{one_more_lasting}
+use Rattle.flusher.proofs.Since.{run_durable}
 use Rattle.flusher.proofs.Runs.{counted_on, ends_are_taken, ends_still, flags_are_set, one_more_round, same_ends}
 use Rattle.flusher.proofs.flusher.Flusher.run.Goals as goal
 
@@ -17,6 +18,7 @@ loop-init g c =
         lasting = no_more f;
         stored = s;
         any_moment = λ up. none_between g.D.Disk.view g.J.Centre.base f (g.met.D.Disk.sound f.store.disk) (c.requires.settled.made up) s up;
+        durable = λ each. each;
       };
       breaks = record { later = omega arith; failed = λ was down. absurd (true≢false (sym down ∙ was)) };
       same = same_ends f;
@@ -41,10 +43,13 @@ loop-preserved g c =
       stored = λ s.
           let before = i.stored s in
           let next = e.stored before.stored in
+          let lasting : AreLasting view base f n =
+          one_more_lasting view base f m n e.round before.lasting i.settled e.settled next.any_moment (g.met.D.Disk.sound n.store.disk) next.stored in
           record {
-            lasting = one_more_lasting view base f m n e.round before.lasting i.settled e.settled next.any_moment (g.met.D.Disk.sound n.store.disk) next.stored;
+            lasting = lasting;
             stored = next.stored;
             any_moment = λ up. one_more_between view base f m n e.round i.rounds m.store.broken refl i.settled.made i.settled.order e.settled.made next.any_moment (before.any_moment up);
+            durable = run_durable view base f n lasting;
           };
       breaks = record {
         later = omega (arith, was, more);
