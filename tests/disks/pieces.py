@@ -3,8 +3,8 @@
 standard input without a disk, and files by `run` and `serve`. A text with every kind of line is cut at each of its bytes; long ones
 are cut at random places, and read whole; and so are the files of four stations at once, and orders that are forbidden, among others.
 - A line that comes alone is answered without another one; a program that waits for a second line is found.
-- 64 commands of one station share two syncs, and their answers one write; also commands that come to the flusher slowly share their
-  syncs. A long text is read in large pieces.
+- 64 commands of one station share two syncs, and their answers one write, without a disk too; also commands that come to the
+  flusher slowly share their syncs. A long text is read in large pieces.
 - A text of more reads than 16 bits count is read to its end. A signal interrupts every second read and write.
 - OUT fails at each byte. What was answered stays done, and of the lines after that at most 64 may be done, in order.
 The independent reading (tests/reading/) judges all answers and disks. Prints the seed, the first cases that fail, and last
@@ -170,8 +170,8 @@ def alone(there, env, seconds):
         finish(program, 0)
 
 
-def one_that_waits_is_found(there, made):
-    """A program that reads until a second line has come."""
+def batch_waits_for_more_lines(there, made):
+    """A program that reads until a second line has come is found."""
     try:
         alone(there, preloading.environment(made, WAITS=2, INPUTS='/proc/self/fd/0'), 1)
     except Differs:
@@ -199,13 +199,22 @@ def few_syncs_apart(there, made, commands):
         few_syncs(there, made, commands, slow)
 
 
-def few_writes(there, made, commands):
-    """The answers to 64 lines of one read are written at once."""
+def on_a_disk(there, made):
     formats(there, STATIONS, LONG)
-    there.write(LINES, data_of(b'%d 0 expire' % number for number in range(1, commands + 1)))
     there.path(OUT).unlink(missing_ok=True)
-    record = made.does(['serve', DISK, LINES, OUT], 0, files=(), answers=[OUT])
-    writes, most = sum(done.kind == 'o' for done in record), -(-commands // AT_HAND)
+    made.does(['serve', DISK, LINES, OUT], 0, files=(), answers=[OUT])
+
+
+def by_standard_streams(there, made):
+    with there.path(LINES).open('rb') as given, there.path(OUT).open('wb') as out:
+        subprocess.run(there.command, stdin=given, stdout=out, env=made.environment(files=(), answers=[OUT]), timeout=20, check=True)
+
+
+def few_writes(there, made, commands, way):
+    """The answers to 64 lines of one read are written at once."""
+    there.write(LINES, data_of(b'%d 0 expire' % number for number in range(1, commands + 1)))
+    way(there, made)
+    writes, most = sum(done.kind == 'o' for done in made.record()), -(-commands // AT_HAND)
     compare(f'{writes} writes for {commands} answers are at most {most}', 0 < writes <= most, True)
 
 
@@ -269,11 +278,12 @@ def main():
         at_random(cutting, dice, count, words)
         of_many(cutting, dice, count, words)
         count.case('a line alone', alone, there, None, 5)
-        count.case('a program that waits for a second line', one_that_waits_is_found, there, made)
+        count.case('a program that waits for a second line', batch_waits_for_more_lines, there, made)
         for commands in 1, 64, 65, 640:
             count.case(f'syncs for {commands} commands', few_syncs, there, recording, commands)
         count.case('syncs for commands that come slowly', few_syncs_apart, there, recording, 256)
-        count.case('writes of answers', few_writes, there, recording, 640)
+        for way in on_a_disk, by_standard_streams:
+            count.case(f'{way.__name__}, writes of answers', few_writes, there, recording, 640, way)
         for way in WAYS:
             count.case(f'{way.__name__}, reads of a long text', few_reads, there, recording, way)
         writers(cutting, dice, count, words)
