@@ -1,22 +1,25 @@
 #!/usr/bin/env python3
 """Tries wrong bodies while `rt ci` still proves the crates above: those of each crate that tests/refused_edits.txt lacks, once `rt ci` has
-proved it. It keeps the verdict there if all are refused, so that `tests/run wrong_bodies` need not try them again, and judges nothing
-itself. As long as `rt ci` works it takes few crates, and only where memory is free; then all that are left. It ends in the processor
-minutes that it took.
+proved it. It does so as `tests/run wrong_bodies` does, but tries the batches of a crate side by side. It keeps the verdict there if all are
+refused, so that `tests/run wrong_bodies` need not try them again, and judges nothing itself. As long as `rt ci` works it takes one crate
+at a time, by two checks, and only where memory is free; then all that are left. It ends in the processor minutes that it took.
 Usage: tests/run early ENDED    at the top of the repository; the file ENDED is made once `rt ci` has ended"""
 import contextlib
 import os
 import resource
 import sys
+import tempfile
 import threading
 import time
+from concurrent.futures import ThreadPoolExecutor
 
 import kit
 import wrong_bodies
 from kit import rt, rtlib
 
-# How many crates it takes while `rt ci` works, with how much free memory for one more, in bytes; and how long it waits for the next, in seconds
-BESIDE, ROOM, PAUSE = 2, 9e9, 20
+# How many checks it runs beside `rt ci`, and after it; how much free memory a crate needs, in bytes; how long it waits for the next, in seconds
+BESIDE, AFTER, ROOM, PAUSE = 2, 6, 9e9, 20
+CRATES = 3
 
 
 def is_proved(crate):
@@ -28,16 +31,25 @@ class Early:
     """The crates that are left, and how many are being tried."""
 
     def __init__(self, ended):
-        self.ended, self.lock, self.busy, self.seen = ended, threading.Lock(), 0, {}
+        self.ended, self.lock, self.busy, self.is_over = ended, threading.Lock(), 0, False
+        self.slots, seen = threading.Semaphore(BESIDE), {}
         crates = [it for it in rtlib.crates_below(os.getcwd()) if os.path.isdir(f"{it.folder}/{wrong_bodies.FOLDER}") and wrong_bodies.files_of(it)]
         kept = wrong_bodies.kept_verdicts()
-        self.sums = {it.name: wrong_bodies.sum_of(it, self.seen) for it in crates}
+        self.sums = {it.name: wrong_bodies.sum_of(it, seen) for it in crates}
         self.left = [it for it in crates if kept.get(it.name) != self.sums[it.name]]
 
-    def take(self):
+    def over(self):
+        """Returns whether `rt ci` has ended. From then on more checks run."""
+        with self.lock:
+            if not self.is_over and os.path.exists(self.ended):
+                self.is_over = True
+                self.slots.release(AFTER - BESIDE)
+            return self.is_over
+
+    def take(self, is_over):
         """Returns a crate to try now, if there is one: the largest."""
         with self.lock:
-            if not os.path.exists(self.ended) and (self.busy >= BESIDE or rt.free() < ROOM):
+            if not is_over and (self.busy or rt.free() < ROOM):
                 return None
             ready = [it for it in self.left if is_proved(it)]
             if not ready:
@@ -46,6 +58,26 @@ class Early:
             self.left.remove(crate)
             self.busy += 1
             return crate
+
+    def tried(self, crate):
+        """Tries the crate's edits, and returns a pair (whether it is refused, what to print) for each."""
+        source, files, said = wrong_bodies.source_of(crate), wrong_bodies.files_of(crate), {}
+        edits = [it for it in (wrong_bodies.read(crate, source, file) for file in files) if it.functions]
+
+        def try_batch(batch):
+            with self.slots, tempfile.TemporaryDirectory(prefix="wrong-bodies-") as kept:
+                return wrong_bodies.tried(crate, batch, kept)
+
+        for _ in range(2):
+            batches = wrong_bodies.grouped([it for it in edits if it.file not in said])
+            with ThreadPoolExecutor(AFTER) as pool:
+                for found in pool.map(try_batch, batches):
+                    said.update({file: (True, f"refused, as it must be: {text[:160]}") for file, text in found.items()})
+        rest = [it for it in files if it not in said]
+        print(f"rt: {crate.name}: alone: {' '.join(map(os.path.basename, rest)) or 'none'}", flush=True)
+        with self.slots, tempfile.TemporaryDirectory(prefix="wrong-bodies-") as kept:
+            said.update(zip(rest, wrong_bodies.tried_alone(crate, rest, kept)))
+        return [(said[it][0], f"{crate.name}/{os.path.basename(it)}: {said[it][1]}") for it in files]
 
     def keep(self, crate, answers):
         with self.lock:
@@ -56,10 +88,10 @@ class Early:
 
     def work(self):
         while True:
-            is_over = os.path.exists(self.ended)
-            crate = self.take()
+            is_over = self.over()
+            crate = self.take(is_over)
             if crate:
-                self.keep(crate, wrong_bodies.tried_all(crate, False, True))
+                self.keep(crate, self.tried(crate))
             elif is_over:
                 return
             else:
@@ -78,10 +110,10 @@ def main(words):
     early = Early(words[0])
     for crate in early.left[:1]:
         kit.must_know_answers(crate, wrong_bodies.FLAGS)
-    lanes = [threading.Thread(target=early.work) for _ in range(int(os.environ.get("RT_JOBS") or rt.processors()) + 2)]
-    for it in lanes:
+    crates = [threading.Thread(target=early.work) for _ in range(CRATES)]
+    for it in crates:
         it.start()
-    for it in lanes:
+    for it in crates:
         it.join()
     used = resource.getrusage(resource.RUSAGE_CHILDREN)
     print(f"wrong bodies tried beside the proofs: {(used.ru_utime + used.ru_stime) / 60:.1f} processor minutes")
