@@ -1,4 +1,4 @@
-// Times how the rows of registers are walked, written, built again and read, again and again.
+// Times how the rows of registers are walked, written, built into tables and read from an image. Each of these ways is run many times.
 use crate::filling::{Filling, is_filled};
 use crate::reading::{built, read};
 use crate::register::LIMITS;
@@ -12,7 +12,7 @@ use std::time::{Duration, Instant};
 // How many rounds there are.
 const ROUNDS: u32 = 5;
 
-// The greatest register, the same in small, and one with few radios beside the most rules and items.
+// The largest register, a small one, and one that has few radios but the most rules and items.
 const FILLINGS: [Filling; 3] = [
     Filling {
         radios: 65_536,
@@ -31,7 +31,7 @@ const FILLINGS: [Filling; 3] = [
     },
 ];
 
-// How often each way is run in a round. A small register is done so often that the time can be read.
+// How often each way is run in a round. One run over a small register is too short to measure, so many are measured together.
 fn repeats(filling: &Filling) -> u32 {
     if filling.items > 16 { 1 } else { 1500 }
 }
@@ -45,7 +45,7 @@ struct Walked {
     written: Duration,
 }
 
-// The time of each way that makes tables of them, and of the walk that building them includes.
+// The times of building the tables of a register, of reading them from its image, and of the walk that building includes.
 #[derive(Clone, Copy, Drop)]
 struct Made {
     walked: Duration,

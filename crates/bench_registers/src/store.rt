@@ -36,11 +36,11 @@ const MANY: Limits = Limits {
 // How many batches add all radios, and how many all items.
 const FILLING: u32 = 1_024;
 
-// The sectors of a half for either. A record of 64 attaches has a gate and three sectors with data.
+// The sectors of a half: `SHORT` for the register `FEW`, `LONG` for `MANY`. A record of 64 attaches has a gate and three sectors with data.
 const SHORT: u32 = 39;
 
 const LONG: u32 = 65_536;
-// How many such records fill it.
+// How many such records fill a half of either length.
 const SHORT_FULL: u32 = 9;
 
 const LONG_FULL: u32 = 16_383;
@@ -194,7 +194,7 @@ fn longer(one: Duration, other: Duration) -> Duration {
     }
 }
 
-// A batch, applied to the register and committed to the store, which have accepted the same commands.
+// Makes a batch, applies it to the register and commits it to the store. Both must have accepted the same commands before and after it.
 fn give<D: Disk>(
     rt: &HostRuntime,
     store: &mut Store<Global, D>,
@@ -212,7 +212,7 @@ fn give<D: Disk>(
     })
 }
 
-// This many batches, from the first radio or item on. After the last radio they begin with the first again.
+// Gives this many batches, from the first radio or item on. After the last radio they begin with the first again.
 fn give_all<D: Disk>(
     rt: &HostRuntime,
     store: &mut Store<Global, D>,
@@ -318,7 +318,7 @@ fn reported_commits(rt: &HostRuntime, register: &mut Register<Global>) -> Option
     Some(())
 }
 
-// How long opening the disk takes. It then forgets its calls. The register is dropped after the time is taken.
+// How long opening the disk takes, and the disk, which then forgets its calls. The register is dropped after the time is taken.
 fn opened(rt: &HostRuntime, disk: MemoryDisk<Global>) -> Option<(Duration, MemoryDisk<Global>)> {
     let start = Instant::now(rt).ok()?;
     let Ok(store) = Store::open(rt.alloc(), disk) else {
@@ -340,7 +340,9 @@ fn read_sectors<D: Disk>(disk: &mut D, first: u64, count: u64) -> Option<u64> {
     Some(seen)
 }
 
-// Reads the sectors that opening reads: those before the slots, the image of side B, and its half.
+// Reads the sectors that opening reads: the three before the slots (the label and both roots), the image of side B, and the half
+// of side B. The only checkpoint of this disk went to side B. The image has a row for each rule, radio and item, and two more: the header
+// and the row of station 1.
 fn read_all<D: Disk>(disk: &mut D, register: &Register<Global>) -> Option<u64> {
     let layout = Layout::new(MANY, LONG)?;
     let registry = register.registry();

@@ -12,7 +12,7 @@ use std::sync::Wait;
 /// How many commands a session submits together.
 pub(crate) const TOGETHER: u32 = 8;
 
-/// The attach of this station's radio.
+/// The command with this sequence that attaches this station's radio.
 pub(crate) fn update(alloc: Global, station: Station, sequence: u32) -> Option<Command<Global>>
     ensures { IfSome result (λ command. command.station ≡ station) }
 {
@@ -32,7 +32,7 @@ pub(crate) fn is_accepted<J: Centre, R: Wait>(
     matches!(session.submit(rt, command), Answer::Accepted { .. })
 }
 
-// Attaches of this station's radio, the first one with this sequence.
+// `TOGETHER` commands that attach this station's radio. The first has the sequence `first`, each later one the next.
 fn updates(alloc: Global, station: Station, first: u32) -> Option<Vec<Command<Global>>> {
     let mut commands = Vec::with_capacity(alloc, TOGETHER as usize).ok()?;
     for k in 0..TOGETHER {
@@ -67,8 +67,8 @@ fn accepted_among<J: Centre>(answers: &Vec<Answer<J>>) -> u64 {
     accepted
 }
 
-/// Submits commands from this sequence on together, and returns how many were accepted. `None` if memory runs out, or the session may
-/// not submit so many.
+/// Submits `TOGETHER` commands in one call, from the sequence `first` on, and returns how many were accepted. `None` if memory runs out,
+/// or if so many are more than the session's share.
 pub(crate) fn accepted_together<J: Centre, R: Wait>(
     rt: &R,
     alloc: Global,

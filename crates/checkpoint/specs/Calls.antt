@@ -1,4 +1,4 @@
--- The calls of the disk that make an image of a register count.
+-- The calls of the disk that write an image of a register, and that switch to its side.
 use Rattle.std.specs.Prelude.{ℕ, Bool, List, [], ◌∷◌, ◌++◌, length, if◌then◌else◌, OnOk, Result}
 use Rattle.identity.specs.Numbers.{Byte}
 use Rattle.sector_disk.specs.Numbers.{Sector}
@@ -21,7 +21,7 @@ use Rattle.checkpoint.specs.OnSide.{Base}
 abbrev pub root_calls_by : Side → Bool → List Call
 root_calls_by side was_open = Read (root_at side) ∷ (if was_open then Write (root_at side) closed_gate ∷ [] else [])
 
--- the side's root is read, and written closed where it was read as open; then the half's first gate is closed, and all synced
+-- the side's root is read, and written closed where it was read as open (`was_open`); then the half's first gate is closed, and the disk synced
 abbrev pub close_calls_by : Layout → Side → Bool → List Call
 close_calls_by layout side was_open = root_calls_by side was_open ++ Write (half_at layout side) closed_gate ∷ Sync ∷ []
 
@@ -33,13 +33,13 @@ is_root_open side reads = is_open (sector reads (root_at side))
 abbrev pub root_calls : Side → List (List Byte) → List Call
 root_calls side reads = root_calls_by side (is_root_open side reads)
 
--- the side's root is read, and written closed where it reads as open; then the half's first gate is closed, and all synced
+-- the side's root is read, and written closed where it reads as open; then the half's first gate is closed, and the disk synced
 abbrev pub close_calls : Layout → Side → List (List Byte) → List Call
 close_calls layout side reads = close_calls_by layout side (is_root_open side reads)
 
 -- ---- an image is written, and made to count
 
--- the sector that row k of an image is written as, from row 0, the header
+-- the sector that row k of an image is written as; row 0 is the header
 abbrev pub row_sector : Base → ℕ → List Byte
 row_sector base k = sector (sectors_of base.0 base.1) k
 
@@ -47,15 +47,15 @@ row_sector base k = sector (sectors_of base.0 base.1) k
 abbrev pub row_calls : Sector → Base → List Call
 row_calls at base = writes at (length (rows_of base.0 base.1)) (row_sector base)
 
--- the side is closed as by `close_calls_by`, then the image is written to its slot, and synced
+-- the side is closed (`close_calls_by`), then the image is written to the side's slot, and the disk synced
 abbrev pub image_calls_by : Layout → Side → Bool → Base → List Call
 image_calls_by layout side was_open base = close_calls_by layout side was_open ++ row_calls (slot_at layout side) base ++ Sync ∷ []
 
--- the side is closed, its root written only where it reads as open; then the image is written to its slot, and synced
+-- the side is closed (`close_calls`), then the image is written to the side's slot, and the disk synced
 abbrev pub image_calls : Layout → Side → List (List Byte) → Base → List Call
 image_calls layout side reads base = image_calls_by layout side (is_root_open side reads) base
 
--- the side's root is written open, and synced
+-- the side's root is written as open, and the disk synced
 abbrev pub switch_calls : Side → List Call
 switch_calls side = Write (root_at side) open_gate ∷ Sync ∷ []
 
@@ -66,9 +66,9 @@ pub record MakesCalls {T E : Type 0} (old new : View) (list : List Call) (result
   pub calls : OnOk result (HasCalled old new list)
   pub some_calls : HasMade old new list
 
--- The calls that the disk has had, where they depend on whether a side's root was read as open (`calls_by`): at `Ok` exactly
--- these calls, and after an error a prefix of them. On an honest disk the root was read as it is in `old`. On any other disk it
--- may have been read as open or as closed.
+-- The calls depend on whether the side's root was read as open: `calls_by` lists them for each case. At `Ok` the disk has had
+-- exactly these calls, and after an error a prefix of them. On an honest disk the root was read as it is in `old`. On any other
+-- disk the root may have been read as open or as closed.
 pub record MakesCallsByRoot {T E : Type 0} (old new : View) (side : Side) (calls_by : Bool → List Call) (result : Result T E) : Type 0 where
   pub calls : OnOk result (old.honest → HasCalled old new (calls_by (is_root_open side old.reads)))
   pub some_calls : old.honest → HasMade old new (calls_by (is_root_open side old.reads))

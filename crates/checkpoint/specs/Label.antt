@@ -9,7 +9,7 @@ use Rattle.checkpoint.specs.declared.layout.Layout.{Layout}
 abbrev pub name : List Byte
 name = 84 ∷ 69 ∷ 84 ∷ 82 ∷ 65 ∷ 76 ∷ 79 ∷ 67 ∷ []
 
--- the layout of this crate
+-- the number of the layout, as a label states it
 abbrev pub layout_number : ℕ
 layout_number = 1
 

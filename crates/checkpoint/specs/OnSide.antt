@@ -29,11 +29,11 @@ sectors_from image at (suc n) = sector image at ∷ sectors_from image (at + 1) 
 abbrev pub Base : Type 0
 Base = Epoch × State
 
--- what the sectors of a side's slot are read as: the image with which they begin, or the place of the first bad one
+-- what the sectors of a side's slot are read as: the image with which they begin, or the place of the first bad sector, from 0 in the slot
 abbrev pub slot_in : Layout → Side → List (List Byte) → Result Base Sector
 slot_in layout side image = slot_of layout.limits (sectors_from image (slot_at layout side) (slot_size layout))
 
--- the image with which a side's slot begins
+-- the side's slot begins with this image of a register
 abbrev pub IsInSlot : Layout → Side → Base → List (List Byte) → Type 0
 IsInSlot layout side base image = slot_in layout side image ≡ Ok base
 
@@ -68,7 +68,7 @@ pub record IsShut (layout : Layout) (side : Side) (disk : View) : Type 0 where
   pub root : IsClosed (sector disk.reads (root_at side))
   pub gate : IsClosed (sector disk.reads (half_at layout side))
 
--- The form of the records after an image, as its first sector states it: numbered after a header of layout 2, else plain.
+-- The form of the records after an image, as the image's first sector states it: numbered if that is a header of layout 2, else plain.
 abbrev pub stated_form : List Byte → Form
 stated_form bytes = if slice_index bytes 0 == header_tag then Numbered else Plain
 
@@ -80,12 +80,13 @@ slot_form layout side image = stated_form (sector image (slot_at layout side))
 abbrev pub ReadsForm : Layout → Side → Form → View → Type 0
 ReadsForm layout side form disk = form ≡ slot_form layout side disk.reads
 
--- the records of a half, and its first closed gate
+-- the records of a half, and the sector of its first closed gate
 abbrev pub Held : Type 0 → Type 0
 Held A = List (Entry A) × Sector
 
 module _ {A : Type 0} where
-  -- the records of this form that a side's half holds, after the commands of its image, and its first closed gate
+  -- The side's half holds the records `held.0`, of this form, and its first closed gate is the sector `held.1`. The records come after
+  -- the `base.1.count` commands of the image's register.
   abbrev pub IsInHalf : Layout → Side → Form → Base → Held A → List (List Byte) → Type 0
   IsInHalf layout side form base held image = half_of form base.1.count image (half_at layout side) (half_end layout side) ≡ Ok held
 
@@ -99,13 +100,13 @@ module _ {A : Type 0} where
     count = counted base.1.count held.0;
   }
 
-  -- a side's half without a record: its first gate is the closed one
+  -- a side's half without a record: its first gate is closed
   abbrev pub fresh : Layout → Side → Held A
   fresh layout side = ([], half_at layout side)
 
-  -- The image of the disk is on this side. It has enough sectors and its label. The side's root is open, and the other side
-  -- does not count against it. The side's slot begins with this image of a register. The side's half holds these records, of
-  -- the form that the slot states, and the closed gate after them.
+  -- The image of the disk is on this side. It has enough sectors for the layout, and the layout's label. The side's root is open,
+  -- and the other side does not count against it (`IsBelow`). The side's slot begins with the image `base` of a register. The side's
+  -- half holds the records `held`, of the form that the slot states. The closed gate after them is in the half.
   pub record IsOnSide (layout : Layout) (side : Side) (form : Form) (base : Base) (held : Held A) (image : List (List Byte)) : Type 0 where
     pub room : disk_size layout ≤ length image
     pub label : IsLabel layout (sector image label_at)
@@ -116,8 +117,8 @@ module _ {A : Type 0} where
     pub half : IsInHalf layout side form base held image
     pub gate : held.1 < half_end layout side
 
-  -- The side is ready to be switched to: its root is closed, and its slot begins with this image of a register. Its half holds
-  -- these records, of the form that the slot states, and the closed gate after them.
+  -- The side is ready to be switched to. Its root is closed, and its slot begins with the image `base` of a register. Its half holds
+  -- the records `held`, of the form that the slot states. The closed gate after them is in the half.
   pub record IsReady (layout : Layout) (side : Side) (form : Form) (base : Base) (held : Held A) (image : List (List Byte)) : Type 0 where
     pub root : IsClosed (sector image (root_at side))
     pub slot : IsInSlot layout side base image
@@ -129,8 +130,7 @@ module _ {A : Type 0} where
   abbrev pub EachIsOnSide : View → Layout → Side → Form → Base → Held A → Type 0
   EachIsOnSide disk layout side form base held = InEach disk (IsOnSide layout side form base held)
 
-  -- in every image of the disk this side is ready (`IsReady`): its root is closed, and it has this image of a register and
-  -- these records
+  -- in every image of the disk this side is ready (`IsReady`), with this image of a register and these records
   abbrev pub EachIsReady : View → Layout → Side → Form → Base → Held A → Type 0
   EachIsReady disk layout side form base held = InEach disk (IsReady layout side form base held)
 
@@ -139,28 +139,28 @@ module _ {A : Type 0} where
   IsEither layout current form also base next held more image =
       IsOnSide layout current form base held image ⊎ IsOnSide layout (other_of current) also next more image
 
--- In every image of the disk this side is ready (`IsReady`): its root is closed, its slot begins with this image of a
--- register, in layout 2, and its half has no record.
+-- In every image of the disk this side is ready (`IsReady`). Its root is closed. Its slot begins with this image of a register, whose
+-- header is of layout 2. Its half has no record.
 abbrev pub HasFreshImage : Type 0 → Layout → Side → Base → View → Type 0
 HasFreshImage A layout side base disk = EachIsReady {A = A} disk layout side Numbered base (fresh layout side)
 
--- Suppose that old is honest, and that each of its images is on this side, with one image of a register and one list of
--- records. Then a stop at any moment from old to new leaves an image on this side, with that register and these records.
+-- Suppose that old is honest, and that all of its images are on this side, with the same image of a register and the same
+-- records. Then a stop at any moment from old to new leaves the disk on this side, with that register and these records.
 abbrev pub KeepsSide : Type 0 → Layout → Side → View → View → Type 0
 KeepsSide A layout side old new =
     (form : Form) (base : Base) (held : Held A) → old.honest → EachIsOnSide old layout side form base held
     → LeavesOnly old new (IsOnSide layout side form base held)
 
 -- Suppose that old is honest, that each of its images is on this side, and that in each the other side is ready (`IsReady`)
--- with a greater epoch. Then a stop at any moment from old to new leaves an image on this side, with the register and records
--- of this side in old, or on the other side, with those of the other side in old.
+-- with a greater epoch. Then a stop at any moment from old to new leaves the disk on one of the two sides. That side has the
+-- register and the records that it had in old.
 abbrev pub KeepsEitherSide : Type 0 → Layout → Side → View → View → Type 0
 KeepsEitherSide A layout side old new =
     (form also : Form) (base next : Base) (held more : Held A) → base.0 < next.0 → old.honest → EachIsOnSide old layout side form base held
     → EachIsReady old layout (other_of side) also next more → LeavesOnly old new (IsEither layout side form also base next held more)
 
 -- Suppose that old is honest, that each of its images is on this side, and that in each the other side is ready (`IsReady`)
--- with a greater epoch. Then each image of new is on the other side, with the register and records of that side in old.
+-- with a greater epoch. Then each image of new is on the other side, with the register and the records that the other side had in old.
 abbrev pub ChangesSide : Type 0 → Layout → Side → View → View → Type 0
 ChangesSide A layout side old new =
     (form also : Form) (base next : Base) (held more : Held A) → base.0 < next.0 → old.honest → EachIsOnSide old layout side form base held

@@ -33,15 +33,15 @@ pub record IsGoodSoFar (layout : Layout) (side : Side) (old new : View) : Type 0
   pub calls : new.calls ≡ old.calls ++ read_calls (slot_at layout side) read
   pub good : (place : ℕ) → slot_in layout side old.reads ≡ Err place → read ≤ place
 
--- What the image that a read returned is. It has the layout's limits. On an honest disk it is the image with which the side's
--- slot begins, and the disk was called only to read its sectors, each once, in order.
+-- What holds of an image that a read returned. It has the layout's limits. On an honest disk it is the image with which the side's
+-- slot begins. On such a disk the only calls were reads of the image's sectors, each once, in order.
 pub record HasReadImage (layout : Layout) (side : Side) (old new : View) (image : Base) : Type 0 where
   pub exact : old.honest → IsInSlot layout side image old.reads
   pub limits : image.1.registered.limits ≡ layout.limits
   pub calls : old.honest → HasCalled old new (image_reads (slot_at layout side) image)
 
--- What an error of a read of an image states. On an honest disk `Damaged` names the first bad sector of the side's slot, on any
--- disk one of its sectors. On an honest disk `NoMemory` comes only where no bad sector was read, so it never masks damage.
+-- What an error of a read of an image states. `Damaged` names a sector that the disk has, and on an honest disk the first bad sector
+-- of the side's slot. On an honest disk `NoMemory` comes only where no bad sector was read, so it never masks damage.
 pub record RefusesImage {T : Type 0} (layout : Layout) (side : Side) (old new : View) (result : Result T ReadFault) : Type 0 where
   pub damaged : (at : ℕ) → IsErrOf result (Damaged at) → old.honest → IsBadSector layout side at old.reads
   pub on_disk : (at : ℕ) → IsErrOf result (Damaged at) → at < old.sectors

@@ -17,7 +17,7 @@ pub record HasRoomFor (layout : Layout) (register : State) (disk : View) : Type 
   pub room : disk_size layout ≤ disk.sectors
   pub limits : register.registered.limits ≡ layout.limits
 
--- n rows are written from the sector `at` on, one a sector, row k (from 0) with the bytes of k.
+-- n rows are written from the sector `at` on, one row a sector. Row k, from 0 on, has the bytes `bytes k`.
 pub record WritesRows (old new : View) (at : Sector) (n : Sectors) (bytes : ℕ → List Byte) (result : Result Unit DiskError) : Type 0 where
   -- A stop at any moment of the call leaves all but these sectors as they were. At `Ok` these read as the rows.
   pub effect : old.honest → HasFilled old new at n bytes result

@@ -11,7 +11,7 @@ use crate::{Layout, Side};
 use sector_disk::{Disk, DiskError};
 use std::alloc::Allocator;
 
-// Closes the other side's root. It is written only where it reads as open: a torn write could open it.
+// Closes the other side's root. The root is written only where it reads as open: a torn write of a closed root could open it.
 fn close_root<A: Allocator, D: Disk>(
     disk: &mut D,
     layout: &Layout,

@@ -5,7 +5,7 @@ ghost use Rattle.checkpoint.specs.OnSide.{stated_form};
 use gated_journal::Form;
 use image_rows::HEADER_TAG;
 
-/// The form of the records after an image, as its first sector states it: numbered after a header of layout 2, else plain.
+/// The form of the records after an image, as the image's first sector states it: numbered if that is a header of layout 2, else plain.
 pub fn stated_form(header: &[u8; 512]) -> Form
     ensures { result ≡ stated_form header.now }
 {

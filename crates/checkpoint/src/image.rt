@@ -14,7 +14,7 @@ use image_rows::{LAST_EPOCH, row_after};
 use sector_disk::{Disk, DiskError};
 use std::alloc::Allocator;
 
-/// Writes the rows of a register's image, of this epoch, from a sector on, one a sector. Takes no memory, reads nothing,
+/// Writes the rows of a register's image with this epoch from the sector `at` on, one row a sector. Takes no memory, reads nothing,
 /// and syncs nothing: a stop may tear these rows until the next sync.
 pub fn write_rows<A: Allocator + Clone, D: Disk>(
     disk: &mut D,
@@ -38,9 +38,9 @@ pub fn write_rows<A: Allocator + Clone, D: Disk>(
 }
 
 /// Writes the image of the register to the other side of the disk, in layout 2. `epoch` is that of the current side's image,
-/// and the new image has the next one. The current side stays so until `switch`. Takes no memory.
+/// and the new image has the next one. The current side stays current until `switch`. Takes no memory.
 ///
-/// The register has the layout's limits. A stop at any moment, also after a `DiskFault`, leaves what was there before.
+/// The register has the layout's limits. A stop at any moment, also after a `DiskFault`, leaves what the current side held.
 /// `EpochsUsedUp` comes where `epoch` is the last one, 2 to the 62nd.
 pub fn write_image<A: Allocator + Clone, D: Disk>(
     disk: &mut D,

@@ -1,6 +1,6 @@
 //! The image of a register on one side of a disk, and the switch to that side.
 //!
-//! It calls the disk and reads a register. It changes no register, and knows nothing of batches, desks, files or threads.
+//! This crate calls the disk and reads a register. It changes no register, and knows nothing of batches, desks, files or threads.
 #![tactic(auto)]
 
 mod closing;

@@ -14,7 +14,7 @@ use std::alloc::Allocator;
 /// The most rows that one call writes.
 const MOST_ROWS: u64 = 8;
 
-/// How far the image of a register is written: its epoch, how many of its rows are, and the place of the last one.
+/// How far the image of a register is written: its epoch, how many of its rows are written, and the place of the last row written.
 #[derive(Clone, Copy, Debug, Drop)]
 pub struct Progress {
     pub(crate) epoch: u64,
@@ -23,7 +23,7 @@ pub struct Progress {
 }
 
 impl Progress {
-    /// A begin: no row of the register's image with this epoch is written yet.
+    /// The progress before the first row: no row of the register's image with this epoch is written yet.
     pub fn begun<A: Allocator + Clone>(epoch: u64, register: &Register<A>) -> Progress
         ensures epoch { result.epoch ≡ epoch }
         ensures none { result.written ≡ 0 }

@@ -12,7 +12,7 @@ pub enum ReadFault {
     /// The device failed.
     #[error("the disk has failed")]
     DiskFault,
-    /// That sector is the first of the slot that holds no row, or one that can't come there.
+    /// That sector is the slot's first bad one: it holds no row, or a row that can't come there.
     #[error("sector {0} of the disk is no row of its image")]
     Damaged(u64),
     /// Memory ran out.

@@ -68,11 +68,11 @@ fn take_rows<A: Allocator + Clone, D: Disk>(
     Ok(())
 }
 
-/// Reads the image of a register back from a side's slot: its epoch, 1 to 2 to the 62nd, and the register, under the layout's
-/// limits. Its sectors are read in order, up to its last one. One of them is in memory at a time.
+/// Reads the image of a register back from a side's slot. Returns the image's epoch and its register, which has the layout's limits.
+/// An epoch is at least 1 and at most 2^62. The image's sectors are read in order, up to its last one, one in memory at a time.
 ///
-/// `Damaged` names the first sector of the slot that holds no row, or one that can't come there. `NoMemory` comes before any
-/// such sector is read. Nothing is written. After an error what was read is dropped.
+/// `Damaged` names the slot's first bad sector: it holds no row, or a row that can't come there. `NoMemory` means that no bad sector
+/// was read before memory ran out. Nothing is written. After an error, what was read is dropped.
 pub fn read_image<A: Allocator + Clone, D: Disk>(
     disk: &mut D,
     layout: &Layout,

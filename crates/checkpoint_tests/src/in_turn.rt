@@ -128,7 +128,7 @@ fn beside<D: Disk>(
         && turn(disk, layout, Side::A).is_none()
 }
 
-/// How many records a half of 39 sectors has, which come after so many commands.
+/// How many records the half of 39 sectors from `first` on has, after so many commands of its image.
 fn records<D: Disk>(alloc: Global, disk: &mut D, first: u32, before: u32) -> Option<usize> {
     let first = u64::from(first);
     if disk.sectors() < first + 39 {
@@ -158,7 +158,8 @@ fn stopped(
     Ok(disk.crash(&fill))
 }
 
-/// After a stop after the failing call: the epoch of the current side, and how many records its half has.
+/// A checkpoint beside one record while this call fails, and a stop after it: the epoch of the current side, and how many records its
+/// half has.
 fn left(
     alloc: Global,
     layout: &Layout,

@@ -123,7 +123,7 @@ pub fn formatted(alloc: Global) -> Option<MemoryDisk<Global>> {
     formatted_for(alloc, 99)
 }
 
-/// The same with room for a record of so many calls.
+/// The same disk, which has room to note so many calls.
 pub fn formatted_for(alloc: Global, calls: u32) -> Option<MemoryDisk<Global>> {
     let mut disk = MemoryDisk::new(alloc, 667, calls as usize).ok()?;
     let formatted = format(&mut disk).is_ok();

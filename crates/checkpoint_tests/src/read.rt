@@ -195,7 +195,7 @@ fn the_first_bad_sector_is_reported(rt: HostRuntime) {
     assert!(rt; are_reported(rt.alloc()) == Some(true));
 }
 
-/// Why it is not read where the call of this number fails, and how many calls have failed.
+/// Why the image of side B is not read where the call of this number fails, and how many calls have failed.
 fn fault_at(
     alloc: Global,
     layout: &Layout,

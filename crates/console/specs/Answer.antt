@@ -31,7 +31,7 @@ abbrev pub whereabouts_text : Option Radio → List Byte
 whereabouts_text None = codes "unknown"
 whereabouts_text (Some radio) = radio_words radio
 
--- the rule that serves an identity, after its prefix
+-- the prefix and the rule that serve an identity, or `none`
 abbrev pub rule_text : Option (Path × Rule) → List Byte
 rule_text None = codes "none"
 rule_text (Some e) = rule_words e.0 e.1
@@ -44,7 +44,7 @@ group_text a = codes "group " ++ identity_text a.gtsi ++ codes " " ++ decimal a.
 abbrev pub member_text : Attachment → List Byte
 member_text a = codes "member " ++ identity_text a.itsi ++ codes " " ++ decimal a.class ++ codes "\n"
 
--- the line of an item: its number, its key, its deadline, its PDU, and the group of a copy
+-- the line of an item: its number, its key without the destination, its deadline, its PDU, and the group of a copy
 abbrev pub item_text : Item → List Byte
 item_text i = codes "item " ++ decimal i.number ++ codes " " ++ key_text i.key ++ codes " " ++ decimal i.deadline
     ++ codes " " ++ bits_text i.pdu ++ item_end i.group
@@ -104,7 +104,7 @@ module _ {B : Type 0} where
   abbrev pub IsOneLine : QueryAnswer B → Type 0
   IsOneLine query_answer = is_list query_answer ≡ false
 
-  -- a PDU in the answer has at most 2,048 bits
+  -- the PDU of a reply has at most 2,048 bits; of other answers nothing is said
   abbrev pub HasNoLongPdu : Answer B → Type 0
   HasNoLongPdu (answer.Replied sequence reply) = HasShortPdu reply
   HasNoLongPdu other = Unit {0}
@@ -119,7 +119,7 @@ module _ {B : Type 0} where
   without_figures (answer.Service lines) = answer.Service []
   without_figures other = other
 
-  -- no list, no listing, no figures, and a PDU in it has at most 2,048 bits: its text fits answer_room bytes
+  -- no list, no listing and no figures; the PDU of a reply has at most 2,048 bits. The text fits answer_room bytes
   abbrev pub IsLine : Answer B → Type 0
   IsLine (answer.Replied sequence reply) = HasShortPdu reply
   IsLine (answer.Queried query_answer) = IsOneLine query_answer

@@ -20,23 +20,24 @@ use Rattle.console.specs.Reading.{Speaker, heard, HasLongPdu}
 use Rattle.console.specs.Answer.{texts, is_trouble, is_outage, is_list, without_figures}
 use Rattle.console.specs.Service.{IsService}
 
--- memory runs out for the text of a list that the desk answers
+-- The desk answers the query with a list, and memory runs out for the list's text. The answer is then the outage word `memory`.
 abbrev pub LacksText : {A W : Type 0} → Rules A W → W → Query → Outage → W → Type 0
 LacksText {A = A} rules s q word t =
     (word ≡ Memory) × ((query_answer : QueryAnswer A) × (is_list query_answer ≡ true) × rules.answers s q (Ok query_answer) t)
 
--- memory runs out for the text of a list of a register that the desk may read
+-- The desk reads the register for the listing, and memory runs out for the listing's text. This can't happen to a listing of one line.
 abbrev pub LacksLines : {A W : Type 0} → Rules A W → W → Listing → Outage → W → Type 0
 LacksLines rules s l word t = (word ≡ Memory) × (is_line l ≡ false) × ((r : State) × rules.reads s (Ok r) t)
 
--- the answer to the question for the figures of the service: lines of its form, or out of memory with the number of the line
+-- The answer to the query `service`: its lines, or out of memory with the number of the query's line. The figures depend on the run, so
+-- only the form of these lines is stated (`IsService`).
 abbrev pub AnswersService : {A : Type 0} → ℕ → Answer A → Type 0
 AnswersService n (answer.Service lines) = IsService lines
 AnswersService n (answer.ServiceOutage number) = number ≡ n
 AnswersService n other = ⊥
 
 module _ {A W : Type 0} where
-  -- memory runs out for a PDU of more than 64 bits in a command, and the desk does nothing
+  -- Memory runs out for the command's PDU, which has more than 64 bits. The desk does nothing.
   abbrev pub LacksPdu : W → Command A → Outage → W → Type 0
   LacksPdu s c word t = HasLongPdu c.body × (word ≡ Memory) × (t ≡ s)
 
@@ -90,7 +91,8 @@ pub record IsDialogue (A : Type 0) {W : Type 0} (rules : Rules A W) (speaker : S
   pub written : out ≡ texts answers
   pub trouble : troubled ≡ list_any is_trouble answers
 
--- cut off: some lines were done, and their answers were written; of the answers to the last ones, at most 64, perhaps only a prefix
+-- The text out was cut off. The desk answered the lines `done`, and got none of the lines `left`. The answers but the last ones were
+-- written whole. Of the last ones, at most 64, the text `part` was written, and the text `missing` was not.
 pub record IsCutOff (A : Type 0) {W : Type 0} (rules : Rules A W) (speaker : Speaker) (s : W)
     (given : List (List Byte)) (out : List Byte) (t : W) : Type 0 where
   pub done : List (List Byte)
@@ -117,7 +119,7 @@ abbrev pub CutOffIsPrefix : (A : Type 0) {W : Type 0} → Rules A W → Type 0
 CutOffIsPrefix A {W = W} rules = (speaker : Speaker) (s t : W) (given : List (List Byte)) (out : List Byte) →
     IsCutOff A rules speaker s given out t → IsPrefix A rules speaker s given out
 
--- without outage words the lines determine the register, and the answers but for the figures of a service
+-- If no answer has an outage word, the lines determine the register after them and all answers, except the figures in those to `service`.
 abbrev pub OneText : Type 0 → Type 0
 OneText A = (speaker : Speaker) (n : ℕ) (s t u : State) (given : List (List Byte)) (xs ys : List (Answer A)) →
     Dialogue of_register speaker n s given xs t → Dialogue of_register speaker n s given ys u →

@@ -3,8 +3,9 @@ use Rattle.std.specs.Prelude.{◌≡◌, ℕ, ◌+◌, List, [], ◌∷◌, ◌+
 use Rattle.std.specs.List.{flat_map}
 use Rattle.identity.specs.Numbers.{Byte}
 
--- a call of the reader gives bytes, or none: at the end of its text, or interrupted; or it fails. An answer is given, with this text. A call
--- of the writer takes bytes, or none, if it is interrupted; or a write or a flush fails
+-- Read: a call of the reader gave these bytes. It gave none at the end of the text, or if it was interrupted. ReadFailed: a call of the
+-- reader failed. Answered: an answer was given, with this text. Wrote: a call of the writer took these bytes. It took none if it was
+-- interrupted. WriteFailed: a write or a flush failed
 pub data Event : Type 0 where
   Read : List Byte → Event
   ReadFailed : Event
@@ -20,7 +21,7 @@ bytes_read (Answered text) = []
 bytes_read (Wrote bytes) = []
 bytes_read WriteFailed = []
 
--- the text of the answer that is given at it
+-- the text of the answer that is given at one event
 abbrev pub text_answered : Event → List Byte
 text_answered (Read bytes) = []
 text_answered ReadFailed = []
@@ -28,7 +29,7 @@ text_answered (Answered text) = text
 text_answered (Wrote bytes) = []
 text_answered WriteFailed = []
 
--- the bytes that the writer takes at it
+-- the bytes that the writer takes at one event
 abbrev pub bytes_written : Event → List Byte
 bytes_written (Read bytes) = []
 bytes_written ReadFailed = []
@@ -40,15 +41,15 @@ bytes_written WriteFailed = []
 abbrev pub read_by : List Event → List Byte
 read_by events = flat_map bytes_read events
 
--- the texts of all answers that are given at them, one after another
+-- the texts of all answers that are given at these events, one after another
 abbrev pub answered_by : List Event → List Byte
 answered_by events = flat_map text_answered events
 
--- all bytes that the writer takes at them
+-- all bytes that the writer takes at these events
 abbrev pub written_by : List Event → List Byte
 written_by events = flat_map bytes_written events
 
--- how many failures of the reader are among them
+-- how many failures of the reader are among these events
 abbrev pub read_failures : List Event → ℕ
 read_failures [] = 0
 read_failures (Read bytes ∷ events) = read_failures events
@@ -57,7 +58,7 @@ read_failures (Answered text ∷ events) = read_failures events
 read_failures (Wrote bytes ∷ events) = read_failures events
 read_failures (WriteFailed ∷ events) = read_failures events
 
--- how many failures of the writer are
+-- how many failures of the writer are among these events
 abbrev pub write_failures : List Event → ℕ
 write_failures [] = 0
 write_failures (Read bytes ∷ events) = write_failures events

@@ -45,7 +45,7 @@ use Rattle.console.specs.declared.line.Line.TheVariants.{Silent, Bad, Apply, Ask
 use Rattle.console.specs.Forms.{word, form_of_words}
 use Rattle.console.specs.Mark.{mark_in}
 
--- no byte of the text is the mark
+-- no byte of the text is this one, such as a space or a line feed
 abbrev pub Lacks : Byte → List Byte → Type 0
 Lacks mark text = All (λ b. (b == mark) ≡ false) text
 
@@ -202,7 +202,7 @@ module _ {A : Type 0} where
   command_of station (Some head) (Some body) = Some (record { station = station; sequence = head.sequence; moment = head.moment; body = body })
   command_of station head body = None
 
-  -- the line that is made of a value; a bad value, if there is none
+  -- the line that `says` makes of a value; a bad line, if there is no value
   abbrev pub line_of : {V : Type 0} → (V → Line A) → Option V → Line A
   line_of says (Some value) = says value
   line_of says None = Bad Value
@@ -220,7 +220,7 @@ module _ {A : Type 0} where
   of_form station form.OwnStation words = OwnStation station
   of_form station form.Service words = Service
 
-  -- only when the form is found are the words judged
+  -- What words of this form say. Words without a form are bad syntax, whatever they are.
   abbrev pub by_form : Station → Option Form → List (List Byte) → Line A
   by_form station None words = Bad Syntax
   by_form station (Some form) words = of_form station form words
@@ -244,7 +244,7 @@ is_silent [] = true
 is_silent (b ∷ bs) = b == 35
 
 module _ {A : Type 0} where
-  -- a line that is too long is bad, even a comment
+  -- what a line of this station says. A line that is too long is bad, even a comment
   abbrev pub reading : Station → List Byte → Line A
   reading station line =
       if nat_lt longest_line (length line) then Bad TooLong
@@ -259,13 +259,13 @@ module _ {A : Type 0} where
   is_order (Delete key) = true
   is_order other = false
 
-  -- a line that gives an order is forbidden to a station that may give none
+  -- The line as it is, if the station may give orders (`true`). Else a command that is an order is forbidden.
   abbrev pub permitted : Bool → Line A → Line A
   permitted true line = line
   permitted false (Apply c) = if is_order c.body then Forbidden c.sequence else Apply c
   permitted false other = other
 
-  -- what a line asks, by what it says and whose it is
+  -- what a line from this speaker asks: what the line says, if the speaker may ask for that
   abbrev pub heard : Speaker → List Byte → Line A
   heard speaker line = permitted speaker.orders (reading speaker.station line)
 

@@ -15,14 +15,14 @@ abbrev pub speaker_of : {A : Type 0} → Terms A → Speaker
 speaker_of terms = record { station = terms.station; orders = terms.orders }
 
 -- what a run begins with: the speaker of the lines, the world of the desk, the bytes that the reader has left, and those that
--- were written
+-- were written. `None` is for bytes that aren't known
 pub record Start (W : Type 0) : Type 0 where
   pub speaker : Speaker
   pub world : W
   pub unread : Option (List Byte)
   pub written : Option (List Byte)
 
--- what it ends with: its result, the world of the desk, and the bytes that were written
+-- what a run ends with: its result, the world of the desk, and the bytes that were written, if they are known
 pub record Outcome (W : Type 0) : Type 0 where
   pub result : Result Ran RunFault
   pub world : W

@@ -1,4 +1,4 @@
--- The answer to the query `service`. Of the figures in it only the form is said.
+-- The form of the answer to the query `service`. Which figures are in it is not stated: they depend on the run.
 use Rattle.std.specs.Prelude.{◌≡◌, ◌⊎◌, ℕ, ◌+◌, ◌-◌, ◌^◌, Bool, true, false, List, [], ◌∷◌, ◌++◌, Option, Some, None, Result, Ok, Err, Vec, length, min, codes, decimal}
 use Rattle.std.specs.declared.alloc.Global.{Global}
 use Rattle.identity.specs.Numbers.{Byte}
@@ -13,7 +13,7 @@ use Rattle.console.specs.declared.figures.StoreFigures.{StoreFigures}
 abbrev pub figure_line : List Byte → ℕ → List Byte
 figure_line name figure = name ++ decimal figure ++ codes "\n"
 
--- how many lines follow for so many stations, and the lines of the service as a whole
+-- The lines before those of so many stations. The first has the number of lines that follow it. The others are of the service as a whole.
 abbrev pub service_words : ℕ → ℕ → StoreFigures → List Byte
 service_words stations rounds store =
     figure_line (codes "service ") (6 + stations) ++ figure_line (codes "rounds ") rounds ++ figure_line (codes "commands ") store.commands
@@ -29,7 +29,7 @@ waits_text false = codes " waits no\n"
 abbrev pub station_begin : ℕ → StationFigures → List Byte
 station_begin number figures = codes "station " ++ decimal number ++ codes " lines " ++ decimal figures.lines ++ codes " accepted " ++ decimal figures.accepted
 
--- the rest of it
+-- the rest of a station's line
 abbrev pub station_end : StationFigures → List Byte
 station_end figures = codes " refused " ++ decimal figures.refused ++ codes " kept " ++ decimal figures.kept ++ waits_text figures.waits
 
@@ -61,7 +61,7 @@ with_reply counts (reply.Accepted number pdu) = record { accepted = counted coun
 with_reply counts (reply.Kept number pdu) = record { accepted = counts.accepted; refused = counts.refused; kept = counted counts.kept }
 with_reply counts (reply.Refused refusal) = record { accepted = counts.accepted; refused = counted counts.refused; kept = counts.kept }
 
--- the same with a result, which counts only if it is a reply
+-- these counts, and one reply more if the result is a reply
 abbrev pub with_result : {B E : Type 0} → ReplyCounts → Result (Reply B) E → ReplyCounts
 with_result counts (Ok replied) = with_reply counts replied
 with_result counts (Err outage) = counts

@@ -155,7 +155,7 @@ OnlyOwnStation A = (station said : Station) (line : List Byte) → reading {A = 
 abbrev pub OnlyService : Type 0 → Type 0
 OnlyService A = (station : Station) (line : List Byte) → reading {A = A} station line ≡ Service → line ≡ service_line
 
--- what a line says is not forbidden before it is known who speaks
+-- `reading` never returns `Forbidden`: that also depends on the speaker (`heard`)
 abbrev pub NothingForbidden : Type 0 → Type 0
 NothingForbidden A = (station : Station) (line : List Byte) (sequence : Sequence) → reading {A = A} station line ≡ Forbidden sequence → ⊥
 
@@ -175,11 +175,11 @@ AllListings A = (station : Station) (l : Listing) → Listable l → reading {A 
 abbrev pub AllMarks : Type 0 → Type 0
 AllMarks A = (station : Station) (word : List Byte) → is_mark word ≡ true → reading {A = A} station (mark_line word) ≡ Mark word
 
--- the line that asks which station this is, is read so
+-- the line `station` is read as the question which station this is
 abbrev pub AllOwnStation : Type 0 → Type 0
 AllOwnStation A = (station : Station) → reading {A = A} station station_line ≡ OwnStation station
 
--- the line that asks for the figures of the service, is read so
+-- the line `service` is read as the question for the figures of the service
 abbrev pub AllService : Type 0 → Type 0
 AllService A = (station : Station) → reading {A = A} station service_line ≡ Service
 

@@ -12,7 +12,8 @@ use Rattle.console.specs.Answer.{is_outage}
 use Rattle.console.specs.Reading.{Speaker}
 use Rattle.console.specs.Dialogue.{Dialogue}
 
--- the answer is `broken`; or the line did not reach the desk: it asks nothing of it, is bad or forbidden, or memory ran out for its PDU
+-- The answer is `broken`, or `memory` to a command. Or it answers a line that asks the desk for nothing: a bad line, an order that is
+-- forbidden, a mark, `station`, `service`, or a line that gets no answer.
 abbrev pub SaysBroken : {A : Type 0} → Answer A → Type 0
 SaysBroken (answer.Replied sequence reply) = ⊥
 SaysBroken (answer.CommandOutage sequence word) = (word ≡ Broken) ⊎ (word ≡ Memory)
@@ -21,19 +22,20 @@ SaysBroken (answer.Listed lines) = ⊥
 SaysBroken (answer.QueryOutage line word) = word ≡ Broken
 SaysBroken other = Unit {0}
 
--- after the answer `device`, each later line is answered so
+-- After the answer `device`, each later answer is one of `SaysBroken`.
 abbrev pub BrokenAfterDevice : Type 0 → Type 0
 BrokenAfterDevice A = (speaker : Speaker) (n : ℕ) (sequence : Sequence) (s t : Stored) (given : List (List Byte)) (before following : List (Answer A)) →
     Dialogue of_store speaker n s given (before ++ answer.CommandOutage sequence Device ∷ following) t → All SaysBroken following
 
--- the lines before the answer `device` made the register, which stays as it is from then on
+-- The lines `done` got the answers before `device`, and made the register `made.register`. All lines, with those from `device` on, leave
+-- the same register.
 abbrev pub RegisterAtDevice : Type 0 → Type 0
 RegisterAtDevice A = (speaker : Speaker) (n : ℕ) (sequence : Sequence) (s t : Stored) (given : List (List Byte)) (before following : List (Answer A)) →
     Dialogue of_store speaker n s given (before ++ answer.CommandOutage sequence Device ∷ following) t →
     (done : List (List Byte)) × (left : List (List Byte)) × (made : Stored)
     × (given ≡ done ++ left) × Dialogue of_store speaker n s done before made × (t.register ≡ made.register)
 
--- without outage words it is a dialogue with the register in memory
+-- A dialogue with a register on a disk, without outage words, is also a dialogue with that register in memory.
 abbrev pub StoredAsRegister : Type 0 → Type 0
 StoredAsRegister A = (speaker : Speaker) (n : ℕ) (s t : Stored) (given : List (List Byte)) (answers : List (Answer A)) →
     Dialogue of_store speaker n s given answers t → list_any is_outage answers ≡ false →

@@ -21,7 +21,7 @@ use Rattle.console.specs.Failures.{failures_reported}
 abbrev pub calls_of : {R L F : Type 0} → Input R L F → List Event
 calls_of input = input.events.list
 
--- all bytes that it has given
+-- all bytes that the reader of an input has given
 abbrev pub all_read : {R L F : Type 0} → Input R L F → List Byte
 all_read input = read_by (calls_of input)
 
@@ -33,19 +33,19 @@ events_of output = output.events.list
 abbrev pub GaveFirst : Option (List Byte) → List Byte → Type 0
 GaveFirst unread given = (all : List Byte) → unread ≡ Some all → (left : List Byte) × (all ≡ given ++ left)
 
--- if what a writer held is known, it holds what was written at these events after that
+-- If what a writer held before these events is known, it holds that after them, followed by what was written at them.
 abbrev pub HasTaken : Option (List Byte) → List Event → Option (List Byte) → Type 0
 HasTaken before events after = (held : List Byte) → before ≡ Some held → after ≡ Some (held ++ written_by events)
 
--- where the streams of a run are: all bytes that its reader gave, and what it has left; what has passed by its output, and what the
--- writer holds
+-- The streams of a run at one moment: all bytes that its reader has given, and those that the reader has left; what has passed by its
+-- output, and what the writer holds.
 pub record Streams : Type 0 where
   pub read : List Byte
   pub unread : Option (List Byte)
   pub passed : List Event
   pub held : Option (List Byte)
 
--- those of this input and this output, by the bytes of their reader and writer
+-- the streams of this input and this output; `unread` is what a reader has left, and `held` what a writer holds
 abbrev pub streams_of : {R L F V G : Type 0} → (R → Option (List Byte)) → (V → Option (List Byte)) → Input R L F → Output V G → Streams
 streams_of unread held input output =
     record { read = all_read input; unread = unread input.reader.now; passed = events_of output; held = held output.writer.now }
@@ -55,11 +55,12 @@ module _ (A : Type 0) {W : Type 0} (rules : Rules A W) (speaker : Speaker) (s t 
   abbrev pub TellsAll : Ran → Type 0
   TellsAll ran = IsDialogue A rules speaker s (lines input) (written_by events) ran.troubled t × (ran.lines ≡ length (lines input)) × (answered_by events ≡ written_by events)
 
-  -- some lines of this input are done. Their answers, or the first of these, were given; what was written may be cut off
+  -- Some lines of this input are done. What was given is a prefix of the texts of their answers. What was written may be cut off.
   abbrev pub TellsSome : Type 0
   TellsSome = (cut : IsCutOff A rules speaker s (lines input) (written_by events) t) × (missing : List Byte) × (texts (cut.answered ++ cut.last) ≡ answered_by events ++ missing)
 
-  -- every whole line of this input is answered, and every answer was written. Nothing is done of what comes after the last line feed
+  -- Every whole line of this input (`done`) is answered, and every answer was written. Nothing is done of `line`, which comes after the
+  -- last line feed.
   pub record TellsWhole : Type 0 where
     pub done : List (List Byte)
     pub line : List Byte
@@ -70,18 +71,18 @@ module _ (A : Type 0) {W : Type 0} (rules : Rules A W) (speaker : Speaker) (s t 
     pub written : written_by events ≡ texts answers
     pub given : answered_by events ≡ written_by events
 
-  -- a run with this result read this input, and took the desk from s to t. What it wrote was answered before
+  -- a run with this result read this input, and took the desk from s to t. Nothing was written before it was given as an answer
   abbrev pub IsTold : Result Ran RunFault → Type 0
   IsTold result = OnlyAnswers events × IfOk result TellsAll × OnErr result TellsSome
 
--- a run with this result took its streams from here to there, and the desk from s to t
+-- a run with this result took its streams from `old` to `new`, and the desk from s to t
 abbrev pub Tells : (A : Type 0) {W : Type 0} → Rules A W → Speaker → W → W → Streams → Streams → Result Ran RunFault → Type 0
 Tells A rules speaker s t old new result = (given : List Byte) × (events : List Event)
     × (new.read ≡ old.read ++ given) × GaveFirst old.unread given
     × (new.passed ≡ old.passed ++ events) × HasTaken old.held events new.held
     × IsTold A rules speaker s t given events result
 
--- the streams went from here to there, and the desk from s to t. Every whole line that was read is answered, and every answer was written
+-- The streams went from `old` to `new`, and the desk from s to t. Every whole line that was read is answered, and every answer was written.
 abbrev pub TellsWholeSince : (A : Type 0) {W : Type 0} → Rules A W → Speaker → W → W → Streams → Streams → Type 0
 TellsWholeSince A rules speaker s t old new = (given : List Byte) × (events : List Event)
     × (new.read ≡ old.read ++ given) × (new.passed ≡ old.passed ++ events) × TellsWhole A rules speaker s t given events
@@ -91,17 +92,18 @@ pub record EndsFor (turns : ℕ) (calls events : List Event) (result : Result Ra
   pub few : length calls ≤ turns
   -- at Ok the text came to its end: the last call of the reader gave no bytes
   pub whole : IfOk result (λ ran. (before : List Event) × (calls ≡ before ++ Read [] ∷ []))
-  -- at Read the last call of the reader failed, and no other; or it was called as often as it may be, and never failed
+  -- at Read the last call of the reader failed, and no other; or the reader was called `turns` times, and never failed
   pub read : IsErrOf result fault.Read → ((before : List Event) × (calls ≡ before ++ ReadFailed ∷ []) × (read_failures before ≡ 0))
       ⊎ ((length calls ≡ turns) × (read_failures calls ≡ 0))
-  -- at any other result it never failed
+  -- at any other result the reader never failed
   pub sound : (IsErrOf result fault.Read → ⊥) → read_failures calls ≡ 0
   -- the writer failed once at Write, and at any other result never
   pub write : write_failures events ≡ failures_reported result
   -- at NoMemory nothing was read, answered or written
   pub memory : IsErrOf result fault.NoMemory → (calls ≡ []) × (events ≡ [])
 
--- why a run with this result ended (`EndsFor`), by the calls that its input made from one moment to another and what passed by its output meanwhile
+-- Why a run with this result ended (`EndsFor`). Given are the calls of its reader before and after it, and what had passed by its output
+-- before and after it.
 abbrev pub EndsSince : ℕ → List Event → List Event → List Event → List Event → Result Ran RunFault → Type 0
 EndsSince turns called called_now passed passed_now result = (calls : List Event) × (events : List Event)
     × (called_now ≡ called ++ calls) × (passed_now ≡ passed ++ events) × EndsFor turns calls events result
@@ -110,14 +112,14 @@ EndsSince turns called called_now passed passed_now result = (calls : List Event
 abbrev pub reader_events : {R W : Type 0} → Passed R W → List Event
 reader_events passed = passed.by_reader.list
 
--- the answers that were given, and the calls of its writer
+-- what passed in a run, once it has ended: the answers that were given, and the calls of its writer
 abbrev pub writer_events : {R W : Type 0} → Passed R W → List Event
 writer_events passed = passed.by_writer.list
 
--- What is told of a run with this result by the calls of its reader and by what passed by its writer, whatever these are: what was read, and what
--- was written after it was answered. Given are what the reader had left and the writer held before the run, the desk before and after it, and
--- what the writer holds after it. If the bytes of the reader or of the writer are known, those that were read are the first of them, and those
--- that were written follow them. Where the reader failed, or was called as often as it may be, every whole line is answered.
+-- What a run with this result read and wrote, over any reader and any writer. Given are what the reader had left (`unread`) and the writer
+-- held (`written`) before the run, the desk before and after it (s and t), what the writer holds after it, and the events of both. If `unread` is
+-- known, the bytes that were read are the first of it. If `written` is known, the bytes that were written follow it. Where the reader failed, or
+-- was called as often as it may be, every whole line is answered.
 abbrev pub TellsBy : (A : Type 0) {W : Type 0} → Rules A W → Speaker → Option (List Byte) → Option (List Byte) → W → W → Option (List Byte) → Result Ran RunFault → List Event → List Event → Type 0
 TellsBy A rules speaker unread written s t after result calls events =
     GaveFirst unread (read_by calls) × HasTaken written events after × IsTold A rules speaker s t (read_by calls) events result

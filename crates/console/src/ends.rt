@@ -21,7 +21,7 @@ fn ends_of_64(piece: &[u8], at: usize) -> u64
         .to_bitmask()
 }
 
-/// The place of the next line feed, from `at` on. Most are near.
+/// The place of the next line feed, from `at` on. Most line feeds are within 64 bytes.
 #[inline(always)]
 pub(crate) fn next_end(piece: &[u8], at: usize) -> Option<usize>
     requires { at ≤ length piece.now }

@@ -131,7 +131,7 @@ fn no_counts(alloc: Global, stations: usize) -> Result<Vec<StationCounts>, Alloc
 }
 
 impl ServiceFigures {
-    /// Those of a service that begins, over a store with these figures. Its clause speaks of the number of stations alone.
+    /// The figures of a service that begins, over a store with these figures. The clause is about the number of stations alone.
     pub fn new(alloc: Global, stations: usize, store: &StoreFigures) -> Result<Self, AllocError>
         ensures { IfOk result (λ figures. stations_of figures ≡ stations) }
     {
@@ -147,7 +147,7 @@ impl ServiceFigures {
         })
     }
 
-    /// Those of no service.
+    /// The figures where no service runs.
     pub(crate) fn none() -> Self {
         ServiceFigures {
             rounds: AtomicU64::new(0),
@@ -160,12 +160,12 @@ impl ServiceFigures {
         }
     }
 
-    /// The round of this number has begun.
+    /// Records that the flusher's round of this number has begun.
     pub fn set_rounds(&self, rounds: u64) {
         self.rounds.store(rounds, Ordering::SeqCst);
     }
 
-    /// The store has these figures now.
+    /// Records the figures that the store has now.
     pub fn set_store(&self, store: &StoreFigures) {
         self.commands.store(store.commands, Ordering::SeqCst);
         self.syncs.store(store.syncs, Ordering::SeqCst);
@@ -174,14 +174,14 @@ impl ServiceFigures {
         self.free.store(store.free, Ordering::SeqCst);
     }
 
-    /// A station waits for the answers to what it has submitted, or no longer does.
+    /// Records whether a station waits for the answers to what it has submitted.
     pub fn set_waits(&self, station: Station, waits: bool) {
         if let Some(counts) = self.counts_of(station) {
             counts.waits.store(u64::from(waits), Ordering::SeqCst);
         }
     }
 
-    /// A station was given these replies.
+    /// Adds the replies that a station was given.
     pub fn add_replies(&self, station: Station, replies: &ReplyCounts) {
         if let Some(counts) = self.counts_of(station) {
             counts
@@ -192,14 +192,14 @@ impl ServiceFigures {
         }
     }
 
-    /// An order of a station was forbidden.
+    /// Counts an order of a station that was forbidden.
     pub(crate) fn add_forbidden(&self, station: Station) {
         if let Some(counts) = self.counts_of(station) {
             counts.refused.fetch_add(1, Ordering::SeqCst);
         }
     }
 
-    /// This many more lines of a station were taken.
+    /// Adds this many lines that were taken from a station.
     pub(crate) fn add_lines(&self, station: Station, lines: u64) {
         if let Some(counts) = self.counts_of(station) {
             counts.lines.fetch_add(lines, Ordering::SeqCst);
@@ -214,7 +214,7 @@ impl ServiceFigures {
         }
     }
 
-    /// How many rounds have begun.
+    /// How many rounds of the flusher have begun.
     pub(crate) fn rounds(&self) -> u64 {
         self.rounds.load(Ordering::SeqCst)
     }

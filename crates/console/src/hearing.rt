@@ -1,4 +1,4 @@
-//! Reading a line by whose it is: to a station that may give no orders they are forbidden.
+//! Reading a line by the rights of its station. If the station may give no orders, they are forbidden.
 ghost use Rattle.std.specs.Prelude.{◌≡◌, Some, IfOk, IfErr, false};
 ghost use Rattle.console.specs.Reading.{heard, is_order, permitted, reading, sequence_of};
 ghost use Rattle.console.specs.Runs.{speaker_of};
@@ -19,7 +19,7 @@ fn is_order<A: Allocator>(body: &Body<A>) -> bool
     )
 }
 
-/// What a line asks of a station that may give no orders.
+/// The line, if its station may give no orders: a command that is an order becomes [`Line::Forbidden`].
 fn without_orders<A: Allocator>(line: Line<A>) -> Line<A>
     ensures { result ≡ permitted false line }
 {

@@ -9,8 +9,8 @@ use base::Steps;
 use std::io::{ErrorKind, Read};
 use std::sync::ledger::Ledger;
 
-/// A reader that can be called only by [`Input::read`]. That counts each call, and each error but an interruption, in
-/// a ledger.
+/// A reader that can be called only by [`Input::read`]. That counts each call in one ledger, and each error but an
+/// interruption in another.
 #[derive(Drop)]
 pub struct Input<'r, 's, R: Read, L: Ledger, F: Ledger> {
     reader: &'r mut R,

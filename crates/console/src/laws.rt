@@ -17,17 +17,18 @@ pub fn cut_off_is_prefix<A: Allocator>()
     ensures store { CutOffIsPrefix A of_store }
 {}
 
-/// Without outage words, the lines have only one text, but for the figures of a service.
+/// If no answer has an outage word, the lines determine the register after them and all answers, except the figures of a service.
 pub fn one_text<A: Allocator>()
     ensures { OneText A }
 {}
 
-/// After a register on a disk has answered `device`, each later line that reaches it is answered by `broken`.
+/// After a register on a disk has answered a command by `device`, each later query and listing is answered by `broken`. Each later command
+/// is answered by `broken` or `memory`, or is forbidden.
 pub fn broken_after_device<A: Allocator>()
     ensures { BrokenAfterDevice A }
 {}
 
-/// After it has answered `device`, its register is the one that the lines before made.
+/// After a register on a disk has answered a command by `device`, it stays as the lines before made it.
 pub fn register_at_device<A: Allocator>()
     ensures { RegisterAtDevice A }
 {}
@@ -37,8 +38,9 @@ pub fn stored_as_register<A: Allocator>()
     ensures { StoredAsRegister A }
 {}
 
-/// A line is read as a command, a query, a listing or a mark only if it spells that, with values in range. Only one line is
-/// read as the question which station this is, and only that station is the answer. Only one is read as that for the figures of the service.
+/// A line is read as a command, a query, a listing or a mark only if it spells that, with values in range. Only the line `station`
+/// is read as the question which station this is, and the answer is that station. Only the line `service` is read as the question for
+/// the figures of the service. None is read as forbidden.
 pub fn only_what_is_spelled<A: Allocator>()
     ensures commands { OnlyCommands A }
     ensures queries { OnlyQueries A }

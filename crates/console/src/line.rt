@@ -22,7 +22,7 @@ pub(crate) const LONGEST: usize = 1024;
 pub enum LineFault {
     /// Its words fit no form.
     Syntax,
-    /// One of its words is malformed or out of range.
+    /// One of its words is malformed or out of range, or the low area of a rule is above the high one.
     Value,
     /// It has more than 1,024 bytes.
     TooLong,
@@ -57,7 +57,7 @@ pub(crate) struct Unread {
     pub(crate) sequence: Sequence,
 }
 
-/// Reads a station's line, which is given without its end. Only a PDU takes memory.
+/// Reads a station's line, which is given without its end. Memory can run out only for a command's PDU of more than 64 bits.
 pub fn parse_line<A: Allocator>(
     alloc: A,
     station: Station,

@@ -15,7 +15,7 @@ use listings::{Part, put_item_end, put_parts};
 use mailbox::{Item, Key, Kind};
 use std::alloc::{AllocError, Allocator};
 
-/// How many lines of a list follow.
+/// The end of a list's first line: how many lines follow.
 #[tactic(auto, using(std::proofs::Common::append_assoc))]
 pub(crate) fn put_count<A: Allocator>(out: &mut Vec<u8, A>, count: usize) -> Result<(), AllocError>
     ensures ok { OnOk result (out.new.items ≡ out.old.items ++ (codes " " ++ decimal count ++ codes "\n")) }

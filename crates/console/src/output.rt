@@ -121,8 +121,8 @@ impl<'w, 'f, W: Write, G: Ledger> Output<'w, 'f, W, G> {
         }
     }
 
-    /// Writes all of the bytes and flushes them, or writes a prefix of them. No clause speaks of the flush, but that a failed one is
-    /// counted.
+    /// Writes all of the bytes and flushes the writer. On an error, a prefix of the bytes was written, perhaps all. No clause says that
+    /// the writer was flushed; a failed flush is counted.
     #[inline(always)]
     pub(crate) fn send(&mut self, bytes: &[u8]) -> Result<(), RunFault>
         ensures writer { self.new.writer.ghost_name ≡ self.old.writer.ghost_name }

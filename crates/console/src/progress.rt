@@ -55,7 +55,7 @@ impl<A: Allocator> CurrentLine<A> {
         self.bytes.extend_from_slice(run).unwrap();
     }
 
-    /// Adds the last bytes of the line, if some of it came before. Else they are not copied: see `ended`.
+    /// Adds the last bytes of the line, if some of its bytes came before. Else the last bytes are not copied: `ended` takes them.
     #[inline(always)]
     pub(crate) fn join(&mut self, run: &[u8])
         ensures { (line : List ℕ) → Holds self.old.bytes.items self.old.long line → HoldsWith self.new.bytes.items self.new.long line run.now }
@@ -73,7 +73,7 @@ impl<A: Allocator> CurrentLine<A> {
         !self.long && self.bytes.is_empty()
     }
 
-    /// The line, which a line feed (`ended`) or the end of the text ends; `None` if it is too long.
+    /// The line. `ended` is whether a line feed ends it, and not the end of the text. `None` if the line is too long.
     #[inline(always)]
     pub(crate) fn line(&self, ended: bool) -> Option<&[u8]>
         ensures { (line : List ℕ) → Holds self.now.bytes.items self.now.long line → KeepsLine (option_map (λ l. l.now) result) (line_at_end ended line) }
@@ -132,7 +132,7 @@ pub(crate) enum Given<B: Allocator> {
     Service,
 }
 
-/// Room for an answer of one line. Even `SEQ kept NUMBER PDU` with a PDU of 2,048 bits takes at most half of it.
+/// Room for an answer of one line. Even `SEQ kept NUMBER PDU` with a PDU of 2,048 bits fits.
 const ANSWER: usize = 1024;
 
 /// The memory of a text with more room than this is freed once the text is written.
@@ -146,7 +146,7 @@ pub(crate) struct AnswerText<A: Allocator> {
 }
 
 impl<A: Allocator + Copy> AnswerText<A> {
-    /// No text yet, with memory for any answer but a list.
+    /// No text yet, with memory for an answer of one line.
     fn new(alloc: A) -> Result<Self, AllocError> {
         Ok(AnswerText {
             bytes: Vec::with_capacity(alloc, ANSWER)?,
@@ -200,7 +200,7 @@ impl<A: Allocator + Copy> AnswerText<A> {
         put_service(&mut self.bytes, service)
     }
 
-    /// Frees what the text of a long listing took, once it is written. Room for any other answer stays.
+    /// Frees the memory of a long text, once it is written. Room for an answer of one line stays.
     pub(crate) fn free(&mut self) {
         if self.bytes.capacity() > LONG_TEXT {
             self.bytes.clear();
@@ -230,8 +230,8 @@ pub(crate) struct Progress<A: Allocator> {
 }
 
 impl<A: Allocator + Copy> Progress<A> {
-    /// Takes memory for the current line, for 64 commands at hand, and for the text of any answer but a list. A run takes no
-    /// other memory for them.
+    /// Takes memory for the current line, for 64 commands that are answered together, and for an answer of one line. A run takes
+    /// no other memory for these, except for the PDUs of commands and replies.
     pub(crate) fn new(alloc: A) -> Result<Self, AllocError> {
         Ok(Progress {
             current: CurrentLine::new(alloc)?,

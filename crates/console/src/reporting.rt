@@ -1,4 +1,4 @@
-//! A writer that reports each flush.
+//! A writer that reports each flush that succeeds.
 ghost use Rattle.std.specs.Prelude.{◌≡◌};
 ghost use Rattle.console.specs.Told.{reader_events, writer_events};
 
@@ -9,11 +9,11 @@ use std::marker::PhantomData;
 
 /// What the flushes of a [`ReportingWriter`] are reported to.
 pub trait AfterFlush {
-    /// The writer was flushed.
+    /// A flush of the writer has succeeded.
     fn after_flush(&self);
 }
 
-/// A writer whose flushes are reported. It calls only the writer within, once for each of its own calls, with the same result.
+/// A writer that reports each flush that succeeds. It calls only the writer within, once for each of its own calls, with the same result.
 #[derive(Drop)]
 pub struct ReportingWriter<'h, W, H> {
     writer: W,
@@ -21,7 +21,7 @@ pub struct ReportingWriter<'h, W, H> {
 }
 
 impl<'h, W, H> ReportingWriter<'h, W, H> {
-    /// This writer, which reports each flush.
+    /// This writer, which reports each flush that succeeds.
     pub fn new(writer: W, to: &'h H) -> Self
         ensures { result.writer ≡ writer }
     {

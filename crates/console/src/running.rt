@@ -28,7 +28,8 @@ pub struct Ran {
     pub troubled: bool,
 }
 
-/// Why a run ended before the end of its text. The lines that were answered stay done. Where the writer failed, up to 64 more may be done.
+/// Why a run ended before the end of its text. The lines that were answered stay done. Where the writer failed, up to 64 more lines may
+/// be done. Their answers weren't written, or only in part.
 #[derive(Clone, Copy, Debug, PartialEq, Eq, Error)]
 pub enum RunFault {
     /// The reader failed, or did not come to an end within `turns` calls. Every whole line that was read is answered. No clause of
@@ -67,7 +68,8 @@ pub struct Terms<A: Allocator + Copy> {
 
 /// As [`run`], with counts in ledgers. Each call of the reader is a step, and each error of it but an interruption is a
 /// fault. Each write or flush that failed is a failure: there is one if the result is [`RunFault::Write`], and else none.
-/// `service` is for the figures of the service that the station is one of: they count its lines, and answer `service`.
+/// `service` has the figures of the service that the station is one of. The run counts the station's lines in them, and answers the
+/// query `service` by them.
 pub fn run_counted<
     L: Ledger,
     F: Ledger,
@@ -92,7 +94,7 @@ pub fn run_counted<
     // Where the reader failed, or was called as often as it may be, every whole line is answered.
     ensures whole { IsErrOf result RunFault.Read → TellsWholeSince A D.rules (speaker_of terms) (D.world desk.old) (D.world desk.new)
         (streams_of R.remaining W.contents input.old output.old) (streams_of R.remaining W.contents input.new output.new) }
-    // Why it ended, by the calls of the reader and the writer.
+    // Why the run ended, by the calls of the reader and the writer.
     ensures ends { EndsSince terms.turns (calls_of input.old) (calls_of input.new) (events_of output.old) (events_of output.new) result }
     // How often the reader is called, and what each fault means.
     ensures calls { input.new.steps.now ≤ input.old.steps.now + terms.turns }
@@ -177,9 +179,9 @@ fn run_in<
     (ran, Passed::by(input, output))
 }
 
-/// Answers all lines of the reader, or the first of them if it ends early, and writes nothing else. It returns the result with the
-/// calls of the reader and the writer. By these `told` says, over any reader and any writer, what was read, and what was written after
-/// it was answered; and `ends` why the run ended, and that the reader is called at most `turns` times.
+/// Answers all lines of the reader, or the first of them if the run ends early, and writes nothing else. It returns the result with the
+/// calls of the reader and the writer. `told` and `ends` hold over any reader and any writer, by these calls. `told` says what was read,
+/// and what was written after it was given as an answer. `ends` says why the run ended, after at most `turns` calls of the reader.
 pub fn run_under<A: Allocator + Copy + Drop, R: Read, W: Write, D: Desk<A>>(
     terms: Terms<A>,
     reader: &mut R,
@@ -201,7 +203,8 @@ pub fn run_under<A: Allocator + Copy + Drop, R: Read, W: Write, D: Desk<A>>(
     run_in::<Brand, Brand, Brand, A, R, W, D>(blanks, terms, reader, writer, desk)
 }
 
-/// As [`run_under`], where the station may give orders. No clause of `run` says why it ends: those of `run_under` and [`run_counted`] do.
+/// As [`run_under`], for a station that may give orders. No clause of this function says why the run ended: those of `run_under` and
+/// [`run_counted`] do.
 pub fn run<A: Allocator + Copy + Drop, R: Read, W: Write, D: Desk<A>>(
     alloc: A,
     reader: &mut R,

@@ -8,10 +8,10 @@ use crate::figures::{ServiceFigures, StationFigures, StoreFigures};
 use listings::{Part, put_parts};
 use std::alloc::{AllocError, Allocator};
 
-/// How many lines there are before those of the stations.
+/// How many lines there are between the first line, `service COUNT`, and those of the stations.
 const SERVICE_LINES: usize = 6;
 
-/// The line of one figure, after its name and a space.
+/// A line with one figure, after `name`, which ends in a space.
 #[tactic(auto, using(std::proofs::Common::append_assoc))]
 fn put_figure<'a, A: Allocator>(
     out: &mut Vec<u8, A>,
@@ -25,7 +25,7 @@ fn put_figure<'a, A: Allocator>(
     put_parts(out, &line)
 }
 
-/// The lines of the service as a whole, with that of the number of lines that follow it.
+/// The lines before those of the stations. The first has the number of lines that follow it.
 #[tactic(auto, using(std::proofs::Common::append_assoc))]
 fn put_whole_service<A: Allocator>(
     out: &mut Vec<u8, A>,

@@ -36,7 +36,7 @@ struct Asked<'a> {
     line: Option<&'a [u8]>,
 }
 
-/// Does what a station's line asks, and returns what is given for it. The lines of a listing are put into `text`.
+/// Does what a station's line asks, and returns what is given for it. The lines of a listing or of the figures are put into `text`.
 #[inline(always)]
 fn answer_line<A: Allocator + Copy, D: Desk<A>>(
     terms: &Terms<A>,
@@ -179,7 +179,7 @@ impl<'t, 's, 'p, 'o, 'd, 'w, 'f, A: Allocator + Copy + Drop, W: Write, G: Ledger
     }
 
     /// Takes whole lines at the beginning of a text, as long as they ask for commands, and does and answers these together. It
-    /// returns how many bytes it took. Nothing of a line has come before.
+    /// returns how many bytes it took. It may be called only if nothing of the current line has come before.
     fn take_together(&mut self, text: &[u8]) -> Result<usize, RunFault>
         requires room { self.old.progress.now.lines + length text.now < 2 ^ 64 }
         ensures within { IfOk result (λ n. n ≤ length text.now) }
@@ -207,7 +207,7 @@ impl<'t, 's, 'p, 'o, 'd, 'w, 'f, A: Allocator + Copy + Drop, W: Write, G: Ledger
         Ok(taken)
     }
 
-    /// Whether a line begins at this place that may ask for a command.
+    /// Whether a line begins at this place, and with a digit. Only such lines ask for commands.
     fn may_ask(&self, piece: &[u8], at: usize) -> bool
         requires { at < length piece.now }
         ensures { IsTrue result → (line : List ℕ) → Holds self.now.progress.now.current.bytes.items self.now.progress.now.current.long line → line ≡ [] }
@@ -218,8 +218,8 @@ impl<'t, 's, 'p, 'o, 'd, 'w, 'f, A: Allocator + Copy + Drop, W: Write, G: Ledger
         piece[at].is_ascii_digit()
     }
 
-    /// Takes the next line of a piece, which is taken up to `at` and has a line feed at `end`; or more, if these ask for commands.
-    /// It returns up to which place the piece is taken then.
+    /// Takes the next line of a piece, or several if these ask for commands. The piece is taken up to `at`, and its next line feed is
+    /// at `end`. It returns the place up to which the piece is taken now.
     fn take_next(&mut self, piece: &[u8], at: usize, end: usize) -> Result<usize, RunFault>
         requires room { self.old.progress.now.lines + length piece.now < 2 ^ 64 + at }
         requires here { (at ≤ end) × (end < length piece.now) }

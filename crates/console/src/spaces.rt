@@ -27,7 +27,8 @@ fn spaces_of_32(line: &[u8], at: usize) -> u64
         .to_bitmask()
 }
 
-/// The spaces of a line of 16 to 64 bytes: of its first 16 or 32 bytes, and of its last.
+/// The spaces of a line of 16 to 64 bytes. It reads the first and the last 16 bytes, or the first and the last 32
+/// if there are as many. The two parts may overlap.
 #[inline(always)]
 fn spaces_of(line: &[u8]) -> u64
     requires low { 16 ≤ length line.now }
@@ -42,7 +43,7 @@ fn spaces_of(line: &[u8]) -> u64
     spaces_of_32(line, 0) | (spaces_of_32(line, at) << at)
 }
 
-/// The place of the first mark.
+/// The place of the lowest bit that is set.
 #[inline(always)]
 pub(crate) fn first_of(marks: u64) -> usize
     requires { marks ≢ 0 }
@@ -53,7 +54,7 @@ pub(crate) fn first_of(marks: u64) -> usize
     marks.trailing_zeros() as usize
 }
 
-/// The place of the first mark, and the other marks.
+/// The place of the lowest bit that is set, and the other bits.
 #[inline(always)]
 pub(crate) fn take_first(marks: u64) -> (usize, u64)
     requires { marks ≢ 0 }

@@ -89,7 +89,7 @@ fn give_result<A: Allocator, B: Allocator, W: Write, G: Ledger>(
     troubled
 }
 
-/// Writes the text if it has no room for one more answer.
+/// Writes the text of the page, and clears it, if the page has no room for one more answer.
 fn make_room<A: Allocator, W: Write, G: Ledger>(
     page: &mut Vec<u8, A>,
     output: &mut Output<W, G>,
@@ -153,7 +153,8 @@ impl<A: Allocator + Copy> Together<A> {
 }
 
 impl<A: Allocator + Copy + Drop> Together<A> {
-    /// Adds the command that a line asks for, and returns whether it asks for one that is not forbidden. Memory may run out for it.
+    /// Adds the command that a line asks for, and returns true. It returns false if the line asks for no command, if the command is
+    /// forbidden, or if memory runs out for its PDU.
     fn add(&mut self, terms: &Terms<A>, line: &[u8]) -> bool
         requires room { vec_len self.old.commands < vec_capacity self.old.commands }
         ensures added { MatchBool result ((c : Command A) × (heard (speaker_of terms.now) line.now ≡ Apply c) × (self.new.commands.items ≡ self.old.commands.items ++ c ∷ []))
@@ -169,8 +170,8 @@ impl<A: Allocator + Copy + Drop> Together<A> {
         }
     }
 
-    /// Takes whole lines from the beginning of the text, at most so many, as long as each asks for a command. It returns how
-    /// many bytes they are.
+    /// Takes whole lines from the beginning of the text, at most `most`, as long as `add` adds the command of each. It returns
+    /// how many bytes were taken.
     pub(crate) fn collect(&mut self, terms: &Terms<A>, text: &[u8], most: usize) -> usize
         requires most { most ≤ 64 }
         ensures within { result ≤ length text.now }

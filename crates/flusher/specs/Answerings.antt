@@ -11,12 +11,14 @@ abbrev pub answers_to : ℕ → List Sent → List Sent
 answers_to s [] = []
 answers_to s (x ∷ xs) = cond (x.command.station == s) (x ∷ answers_to s xs) (answers_to s xs)
 
--- these answers were sent on this channel; or its session is gone, and only a prefix of them was. If it was gone before, nothing is sent
+-- The answers `xs` were sent on a channel. `old` are all that were sent before, and `new` all that are sent after. Or the channel's session is
+-- gone, and only a prefix of `xs` was sent. If the session was found gone before, nothing is sent. `was` and `now` say whether it was found
+-- gone before and after.
 pub record HasAnswered (old new : List Sent) (was now : Bool) (xs : List Sent) : Type 0 where
   pub kept : was ≡ true → (now ≡ true) × (new ≡ old)
   pub sent : ((was ≡ false) × (now ≡ false) × (new ≡ old ++ xs)) ⊎ ((now ≡ true) × IsPrefix old new × IsPrefix new (old ++ xs))
 
--- each station was sent its answers
+-- each station was sent its answers among `xs` (`HasAnswered`); the first sender is that of station 1
 pub record HaveAnswered (old : List (AnswerSender Sent)) (xs : List Sent) (new : List (AnswerSender Sent)) : Type 0 where
   pub count : length new ≡ length old
   pub each : (k : ℕ) (a b : AnswerSender Sent) → slice_get old k ≡ Some a → slice_get new k ≡ Some b

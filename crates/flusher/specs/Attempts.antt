@@ -11,7 +11,7 @@ use Rattle.flusher.specs.declared.committing.Attempts.{Attempts}
 abbrev pub none_tried : Attempts
 none_tried = record { count = 0; refused = false }
 
--- one more commit was tried, and whether it was out of memory is noted
+-- from `was` to `now` one more commit was tried, and `now` notes whether this commit, with this result, was out of memory
 pub record HasAttempted (was : Attempts) (result : Result (Vec (Outcome Global) Global) StoreFault) (now : Attempts) : Type 0 where
   pub counted : IsNext was.count now.count
   pub exact : IsTrue now.refused ↔ IsErrOf result NoMemory
@@ -25,11 +25,11 @@ pub record WasOutOfMemory (was now : Attempts) : Type 0 where
 abbrev pub HasBeenRefused : ℕ → ℕ → Type 0
 HasBeenRefused was now = IsNext was now
 
--- how commits were tried, and how many calls of the publisher were out of memory
+-- how many commits were tried and whether the last one was out of memory, and how many calls of the publisher were out of memory
 pub record Tries : Type 0 where
   pub commits : Attempts
   pub publications : ℕ
 
--- commits that were tried so, and publications of which so many were out of memory
+-- tries with these parts
 abbrev pub tries : Attempts → ℕ → Tries
 tries commits publications = record { commits = commits; publications = publications }

@@ -27,7 +27,7 @@ use Rattle.recovery.specs.Outcomes.{AreRecorded, IsAnswered, IsAfterBatch, Opens
 
 -- ---- taking
 
--- these entries were taken: 64, or fewer if the queue was found empty (if it takes none, perhaps in an earlier round)
+-- These entries were taken: 64, or fewer if the queue was found empty. If none was taken, the queue was perhaps found empty earlier.
 pub record HasTaken (old : Taking) (popped : List Entry) (new : Taking) : Type 0 where
   pub taken : new.taken ≡ old.taken ++ popped
   pub most : length popped ≤ 64
@@ -87,12 +87,12 @@ module _ {D : Type 0} (old new : StoreView Global D) where
   HasMadeRoom (Err (Damaged at)) = ⊥
 
 module _ {D : Type 0} (commands : List (Asked Global)) (old new : StoreView Global D) where
-  -- each command was answered
+  -- each command was answered by its outcome, and the store is sound
   pub record IsDone (outcomes : List (Outcome Global)) : Type 0 where
     pub answered : IsAnswered old.register commands new.register outcomes
     pub sound : new.broken ≡ false
 
-  -- the accepted commands are kept as one record: after those of the store, or after a checkpoint that made room for it
+  -- The accepted commands are kept as one record. It follows the records of the store if it fits (`fits`), else a checkpoint that made room.
   pub record AreKept (fits : Bool) : Type 0 where
     pub recorded : List (Asked Global)
     pub these : AreRecorded Global old.register commands new.register recorded
@@ -126,7 +126,7 @@ module _ {D : Type 0} (commands : List (Asked Global)) (old new : StoreView Glob
   IsRefusedBy BadGeometry was now = ⊥
   IsRefusedBy (Damaged at) was now = ⊥
 
-  -- what a commit of a sound store gives; if a record of all the commands would not fit, nothing is changed
+  -- The result of a commit of a sound store. At `Unready` a record of all the commands would not fit, and nothing is changed.
   abbrev pub HasTried : Result (Vec (Outcome Global) Global) StoreFault → Type 0
   HasTried (Ok outcomes) = IsDone outcomes.items × AreKept true
   HasTried (Err DiskFault) = HasBroken
@@ -138,7 +138,7 @@ module _ {D : Type 0} (commands : List (Asked Global)) (old new : StoreView Glob
   HasTried (Err BadGeometry) = ⊥
   HasTried (Err (Damaged at)) = ⊥
 
-  -- what a commit of a sound store gives that first makes a checkpoint if a record would not fit
+  -- the result of a commit of a sound store that first makes a checkpoint if a record of all the commands would not fit
   abbrev pub IsAnswerOf : Result (Vec (Outcome Global) Global) StoreFault → Attempts → Attempts → Type 0
   IsAnswerOf (Ok outcomes) was now = IsDone outcomes.items × HasRecorded
   IsAnswerOf (Err fault) was now = IsRefusedBy fault was now

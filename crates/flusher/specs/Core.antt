@@ -27,11 +27,11 @@ pub record IsCoreRun {D : Type 0} (base : State) (n : ℕ) (first last : Flusher
   pub answers : List Sent
   pub asked : commands_of answers ≡ commands_among last.taker.taken
   pub answered : HaveAnswered first.senders answers last.senders
-  -- the events have no reopening, and what they submit are some of the commands that were taken, in that order
+  -- the events have no reopening, and the commands that they submit are some of those that were taken, in the same order
   pub events : List (Event Global)
   pub one_life : IsOneLife events
   pub submitted : Sublist (submissions events) (commands_among last.taker.taken)
-  -- in the world after them the accepted commands are the durable ones, as many are published as the flusher published, and the answers are
-  -- its replies, in order; it is down if the disk has failed
+  -- In the world after these events the accepted commands are the durable ones, and as many are published as the flusher published. The
+  -- world's answers are the replies among `answers`, in order. The world is down if the disk has failed. `lines` are its stations' lines.
   pub lines : List (Line Global)
   pub run : Run base (opening n) events (at (world_of (stage_of (progress_of last)) (entries_of answers)) lines)

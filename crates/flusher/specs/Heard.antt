@@ -15,7 +15,7 @@ abbrev pub ArePut : List (Asked Global) → List Entry → List Entry → Type 0
 ArePut [] old new = new ≡ old
 ArePut (c ∷ cs) old new = (mid : List Entry) × IsPut c old mid × ArePut cs mid new
 
--- so many more answers were received; or the flusher was found gone, before or in the call
+-- So many more answers were received, or the flusher was found gone. `was` and `now` say whether it was found gone before and after.
 pub record HaveAllCome (count : ℕ) (was now : Bool) (old new : List Sent) : Type 0 where
   pub found : now ≡ false → was ≡ false
   pub all : now ≡ false → length new ≡ length old + count
@@ -40,7 +40,8 @@ module _ {J : Type 0} where
   ArePutFirst cs old new answers =
       (put : ℕ) × ArePut (take put cs) old new × (drop put answers ≡ replicate (length cs - put) answer.NoMemory)
 
-  -- the answer to a command that was put into the queue was received, or none was, and it is answered that the flusher is gone
+  -- How a command that was put into the queue is answered. One more answer was received (`Fits`). Or none was, no more is seen, and the
+  -- command is answered as `Closed`.
   pub record IsHeard (base : State) (c : Asked Global) (old new : Heard) (a : Answer J) : Type 0 where
     pub received : ((x : Sent) × (new.received ≡ old.received ++ x ∷ []) × Fits base c old.seen old.reached x new.seen a)
         ⊎ ((new.received ≡ old.received) × (new.seen ≡ old.seen) × (a ≡ answer.Closed))

@@ -13,7 +13,8 @@ use Rattle.flusher.specs.Stored.{AreUnderWay}
 use Rattle.flusher.specs.View.{FlusherView}
 
 module _ {D : Type 0} (view : D → View) (base : State) where
-  -- A round is a call of the store. What it made durable was answered. If the disk failed in it, what was under way was not.
+  -- A round is a call of the store, with this event: `Answered` with the commands that the round made durable; or, if the disk failed in it,
+  -- `Unanswered` with the commands that were under way.
   pub data IsRoundCall (f g : FlusherView D) : Event Global → Type 0 where
     makes_durable : (more : List (Asked Global)) → g.durable ≡ f.durable ++ more
         → IsCall Global view (Open f.store) (Answered more) (Open g.store) → IsRoundCall f g (Answered more)
@@ -30,15 +31,17 @@ module _ {D : Type 0} (view : D → View) (base : State) where
     one_call : (events : List (Event Global)) (event : Event Global) (g h : FlusherView D)
         → AreCalls f events g → IsRound view base g h → IsRoundCall g h event → AreCalls f (event ∷ events) h
 
--- What happened, the last event first, and what of it had happened when a stop came: in one of these calls, or before any.
+-- The first list has the events of calls, the last one first. The second has what of them had happened when a stop came: in one of these
+-- calls, or before any.
 pub data AreCutShort : List (Event Global) → List (Event Global) → Type 0 where
   before_any : AreCutShort [] (Unanswered [] ∷ [])
   in_last : (event : Event Global) (events : List (Event Global)) → AreCutShort (event ∷ events) (stopped event ∷ events)
   in_earlier : (event : Event Global) (events cut : List (Event Global)) → AreCutShort events cut → AreCutShort (event ∷ events) cut
 
--- A life of the disk came to the first flusher's store by these events, and goes on by rounds to the last one's, or by a stop. `mid` is the
--- flusher after some of the rounds, or after none. After a stop at any moment since then the disk comes back with all that these did, so with
--- all that was answered by then. Of the later rounds it has what those before the stop did, and all or none of the one in which it came.
+-- A life of the disk came to the first flusher's store by the events `before`. It goes on by rounds to the last flusher's store, or by a stop.
+-- `mid` is the flusher after some of the rounds, or after none. After a stop at any moment since `mid` the disk comes back with all that the
+-- rounds up to `mid` did, so with all that was answered by then. Of the later rounds it has all that those before the stop did, and all or
+-- none of the round in which the stop came.
 pub record HasLived {D : Type 0} (view : D → View) (base from : State) (before : List (Event Global)) (first last : FlusherView D) : Type 0 where
   pub events : List (Event Global)
   pub calls : AreCalls view base first events last

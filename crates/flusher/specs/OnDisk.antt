@@ -19,21 +19,21 @@ module _ {D : Type 0} (view : D → View) where
     pub failed : old.broken ≡ false → new.broken ≡ true → HasFailed (view old.disk) (view new.disk)
 
   -- A round is a call in the life of the disk. After it each image of the disk opens to what is durable, or once the disk has failed perhaps
-  -- to more. After a stop at any moment of it, of a sound store, the disk opens to the register before the round or to the one after it.
+  -- to more. If the store was sound before, a stop at any moment of the round leaves the register from before the round or after it.
   pub record IsRoundStored (base : State) (f g : FlusherView D) : Type 0 where
     pub call : IsSomeCall view base f g
     pub stored : IsStoredFor view base g
     pub any_moment : f.store.broken ≡ false
         → LeavesOnly (view f.store.disk) (view g.store.disk) (OpensToEither Global f.store.register g.store.register)
-    -- each answer that was sent in the round was durable before, if each earlier one was
+    -- each answer that was sent in the round was durable before it was sent, if this holds of all earlier answers
     pub durable : AreAllDurable view base g f.senders → AreAllDurable view base g g.senders
 
-  -- After rounds each image of the disk opens to what is durable, or once the disk has failed perhaps to more. After a stop at any moment of
-  -- them, of a store that was sound before, it opens to a list between what was durable before and after them, and to no less than was durable
-  -- at the end of the round before.
+  -- After rounds each image of the disk opens to what is durable, or once the disk has failed perhaps to more. If the store was sound before,
+  -- a stop at any moment of the rounds leaves a list between what was durable before and after them, or once the disk has failed perhaps more
+  -- (`OpensBetween`). After a stop once one of the rounds has ended the disk opens to no less than was durable at the end of that round.
   pub record AreRoundsStored (base : State) (f g : FlusherView D) : Type 0 where
     pub lasting : AreLasting view base f g
     pub stored : IsStoredFor view base g
     pub any_moment : f.store.broken ≡ false → LeavesOnly (view f.store.disk) (view g.store.disk) (OpensBetween base f g)
-    -- each answer that was sent in these rounds was durable before, if each earlier one was
+    -- each answer that was sent in these rounds was durable before it was sent, if this holds of all earlier answers
     pub durable : AreAllDurable view base g f.senders → AreAllDurable view base g g.senders

@@ -24,8 +24,9 @@ use Rattle.flusher.specs.Borne.{AreSentInOrder}
 use Rattle.flusher.specs.Order.{AreInOrder}
 use Rattle.flusher.specs.View.{FlusherView, Progress, stage_of}
 
--- What always holds between two rounds. What is durable is a history, and the register of a sound store is what it makes. What is
--- published is a prefix of it. Each answer that was sent is borne out by it. Its commands were taken in this order.
+-- What always holds between two rounds. What is durable is a history, and a sound store's register is what this history makes. What is
+-- published is a prefix of the history. The history bears out each answer that was sent. Its commands are in the order in which they
+-- were taken. `ended` marks the stations of whose session the end was taken.
 pub record IsSettled {D : Type 0} (base : State) (f : FlusherView D) : Type 0 where
   pub history : IsHistory base f.durable
   pub made : f.store.broken ≡ false → f.store.register ≡ after base f.durable
@@ -45,17 +46,20 @@ decision_by Unformatted = decision.Fault Unformatted
 decision_by BadGeometry = decision.Fault BadGeometry
 decision_by (Damaged at) = decision.Fault (Damaged at)
 
--- From one view to another, with these commands and their answers, which are sent at moment t.
+-- How a round goes from the progress f to the progress g. It answers these commands, with these answers, at moment t.
 module _ {D : Type 0} (base : State) (t : Tick) (f g : Progress D) (commands : List (Asked Global)) (answers : List Sent) where
-  -- The commands were committed, and each is answered by its outcome: its reply in its turn, and out of memory from the first one on
-  -- that needed memory. What is accepted is published; if that ran out of memory, an accepted command is answered as kept. A checkpoint
-  -- was made only if a record of all the commands would not fit.
+  -- The commands were committed, and each is answered by its outcome. That is its reply in its turn. If memory ran out for a command, it
+  -- and all later ones are answered as out of memory. What is accepted is published. If publishing ran out of memory, an accepted command
+  -- is answered as kept. A checkpoint was made only if a record of all the commands would not fit.
   pub record AreCommitted : Type 0 where
+    -- the outcomes of the commit, one for each command
     pub outcomes : List (Outcome Global)
+    -- whether all that is durable was published
     pub all : Bool
     pub answered : IsAnswered (after base f.durable) commands (after base g.durable) outcomes
     pub durable : g.durable ≡ f.durable ++ accepted_by commands outcomes
     pub published : g.published ≡ cond all g.durable f.durable
+    -- if not all was published, a command was accepted, and the publisher was out of memory
     pub some : all ≡ false → (length f.durable < length g.durable) × HasBeenRefused f.attempts.publications g.attempts.publications
     pub sound : g.store.broken ≡ false
     pub each : answers ≡ sent_by t g.published all commands outcomes
@@ -115,8 +119,9 @@ pub record HasServed {D : Type 0} (base : State) (t : Tick) (f g : Progress D) (
   pub run : HasRun base (stage_of f) (stage_of g) commands answers
   pub served : AreServed base t f g commands answers
 
--- What became durable was published, or that ran out of memory, and each command was answered by its outcome, at moment t. `was` and `now`
--- count the calls of the publisher that were out of memory, before and after it.
+-- What became durable was published, or publishing ran out of memory. Each command was answered by its outcome, at moment t. The list
+-- `before` was durable and published before, and `list` is published now. `was` and `now` count the publisher's calls that were out of
+-- memory, before and after it.
 pub record HavePublished (t : Tick) (was now : ℕ) (before durable list commands : List (Asked Global)) (outcomes : List (Outcome Global))
     (old new : List (AnswerSender Sent)) : Type 0 where
   pub all : Bool

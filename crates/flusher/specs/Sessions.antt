@@ -7,7 +7,7 @@ use Rattle.flusher.specs.declared.session.Session.{Session}
 use Rattle.flusher.specs.Submitted.{SessionView}
 
 module _ {J : Type 0} where
-  -- what it put into the queue, what it received, and the list that it has seen; it has reached all of that
+  -- what the session put into the queue, what it received, and the list that it has seen; it has reached all of this list
   abbrev pub view_of : Session J → SessionView
   view_of s = record { sent = s.sender.sent; received = received_of s.receiver.pass; seen = s.viewer; reached = length s.viewer }
 
@@ -20,7 +20,7 @@ module _ {J : Type 0} where
     -- a flusher that was found gone stays so
     pub gone : new.listening ≡ false → old.listening ≡ false
 
-  -- nothing is sent or received, what was seen stays seen, and its share stays; the flusher is found gone if it was before
+  -- Nothing is sent or received, and what was seen stays seen. The share stays, and so does whether the flusher was found gone.
   pub record HasOnlyRead (old new : Session J) : Type 0 where
     pub sender : new.sender ≡ old.sender
     pub receiver : new.receiver ≡ old.receiver

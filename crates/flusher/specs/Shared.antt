@@ -7,7 +7,7 @@ use Rattle.centre_core.specs.Asked.{Asked}
 use Rattle.station_queue.specs.declared.entry.Entry.{Entry}
 use Rattle.station_queue.specs.declared.entry.Entry.TheVariants.{Submitted, Ended}
 
--- the commands that these share
+-- the commands in these `Arc`s
 abbrev pub commands_in : List (Arc (Asked Global) Global) → List (Asked Global)
 commands_in xs = map (λ c. arc_value c) xs
 

@@ -24,7 +24,7 @@ use Rattle.flusher.specs.declared.decision.Decision.TheVariants as decision
 
 -- ---- answers
 
--- an answer as it is sent: that moment of the disk's clock, its command, the list that was published then, and the decision
+-- an answer as it is sent: the moment by the disk's clock when it is sent, its command, the list that is published then, and the decision
 pub record Sent : Type 0 where
   pub moment : Tick
   pub command : Asked Global
@@ -58,7 +58,7 @@ abbrev pub decision_of : Bool → Outcome Global → Decision
 decision_of all (outcome.Replied r) = decision.Replied (answer_from all r)
 decision_of all outcome.NoMemory = decision.NoMemory
 
--- the answers to these commands by these outcomes, at one moment
+-- the answers to these commands by these outcomes, all at one moment and with one published list. `all`: everything durable is published
 abbrev pub sent_by : Tick → List (Asked Global) → Bool → List (Asked Global) → List (Outcome Global) → List Sent
 sent_by t published all [] os = []
 sent_by t published all (c ∷ cs) [] = []
@@ -87,13 +87,13 @@ decision_for_all (Some fault) = decision.Fault fault
 
 -- ---- the core
 
--- an answer in the core; only a reply is one
+-- the answer to a command as an entry of the core, if it is a reply; else no entry
 abbrev pub entry_of : Asked Global → Decision → List (Entry Global)
 entry_of c (decision.Replied r) = (c, r) ∷ []
 entry_of c decision.NoMemory = []
 entry_of c (decision.Fault fault) = []
 
--- the answers in the core among these, in order
+-- the entries of the core for these answers, in order
 abbrev pub entries_of : List Sent → List (Entry Global)
 entries_of [] = []
 entries_of (x ∷ xs) = entry_of x.command x.decision ++ entries_of xs
@@ -147,7 +147,7 @@ is_own other = true
 abbrev pub AreOwn : List (Event Global) → Type 0
 AreOwn events = AllByRecursion (λ (e : Event Global). is_own e ≡ true) events
 
--- a prefix of the commands goes through the core by a run of the flusher's events: one that goes on, or one that ends in a crash
+-- A prefix of the commands, `reached` many, goes through the core by a run of the flusher's events. This run goes on, or it ends in a crash.
 pub record HasRun (base : State) (f g : Stage) (commands : List (Asked Global)) (answers : List Sent) : Type 0 where
   pub reached : ℕ
   pub events : List (Event Global)

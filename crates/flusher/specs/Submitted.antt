@@ -26,7 +26,7 @@ are_submitted [] = true
 are_submitted (Submitted request ∷ entries) = are_submitted entries
 are_submitted (Ended station ∷ entries) = false
 
--- commands that were submitted, and as the last entry the end of a session
+-- the last entry is the end of a session, and each one before it is of a command that was submitted
 abbrev pub is_ended : List Entry → Bool
 is_ended [] = false
 is_ended (Submitted request ∷ entries) = is_ended entries
@@ -78,8 +78,8 @@ module _ {J : Type 0} where
 
   -- What an answer says of its command, with the list that was seen before, how much of it was reached, and the list that is seen now.
   -- Accepted: the published list begins with all that was seen, and is now seen; the command is in it at its number, past all that was
-  -- reached, with this reply. Kept: the list that is now seen, if it is as long, or the base has this number and reply for the station's
-  -- command of that sequence. Refused: the step refuses the command after some list of commands that are accepted in turn.
+  -- reached, with this reply. Kept: if the list that is now seen reaches this number, the list or the base keeps number and reply for the
+  -- command's station and sequence. Refused: the step refuses the command after some list of commands that are accepted in turn.
   abbrev pub BearsOutAnswer : State → Asked Global → List (Asked Global) → ℕ → List (Asked Global) → Answer J → Type 0
   BearsOutAnswer base c seen reached now (answer.Accepted n p published) =
       IsPrefix seen published × (base.count + reached < n) × Lands base published c n p × (now ≡ published)
@@ -89,7 +89,7 @@ module _ {J : Type 0} where
   BearsOutAnswer base c seen reached now (answer.Fault f) = Unit {0}
   BearsOutAnswer base c seen reached now answer.Closed = Unit {0}
 
-  -- an accepted command is among so many
+  -- if the answer accepts its command, the command is among the reached ones
   abbrev pub IsWithin : State → ℕ → Answer J → Type 0
   IsWithin base reached (answer.Accepted n p published) = n ≤ base.count + reached
   IsWithin base reached (answer.Kept n p) = Unit {0}
@@ -98,7 +98,7 @@ module _ {J : Type 0} where
   IsWithin base reached (answer.Fault f) = Unit {0}
   IsWithin base reached answer.Closed = Unit {0}
 
-  -- how much of the list that is now seen is reached: no less than before, and an accepted command
+  -- Of the list `now`, which is now seen, `new` commands are reached: no fewer than the `old` ones before, and with them an accepted command.
   abbrev pub HasReached : State → ℕ → ℕ → List (Asked Global) → Answer J → Type 0
   HasReached base old new now a = (old ≤ new) × (new ≤ length now) × IsWithin base new a
 
@@ -111,7 +111,7 @@ module _ {J : Type 0} where
   abbrev pub IsAnswered : State → Asked Global → SessionView → SessionView → Answer J → Type 0
   IsAnswered base c old new a = (x : Sent) × (new.received ≡ old.received ++ x ∷ []) × Fits base c old.seen old.reached x new.seen a
 
-  -- no answer was received, and the command is answered as `Closed`: the flusher is gone
+  -- no answer was received, no more is seen, and the command is answered as `Closed`
   abbrev pub IsUnanswered : SessionView → SessionView → Answer J → Type 0
   IsUnanswered old new a = (new.received ≡ old.received) × (new.seen ≡ old.seen) × (a ≡ answer.Closed)
 

@@ -13,8 +13,8 @@ use Rattle.flusher.specs.Attempts.{Tries, tries}
 use Rattle.flusher.specs.declared.committing.Committer.{Committer}
 use Rattle.flusher.specs.declared.flusher.Flusher.{Flusher}
 
--- The taker of the queue; the published commands, and the durable ones; the channels, one for each station; the store; how commits were
--- tried, and how many calls of the publisher were out of memory; and for each station whether its end was taken.
+-- The taker of the queue; the published commands, and the durable ones; the channels, one for each station; the store; the attempts to commit
+-- and to publish (`Tries`); and for each station whether the end of its session was taken.
 pub record FlusherView (D : Type 0) : Type 0 where
   pub taker : Taking
   pub published : List (Asked Global)
@@ -40,7 +40,7 @@ view_of f = record {
   ended = f.ended.items;
 }
 
--- how far the centre has come: what is published and durable, its store, and how its commits and publications were tried
+-- how far the centre has come: what is published and durable, its store, and its attempts to commit and to publish
 pub record Progress (D : Type 0) : Type 0 where
   pub published : List (Asked Global)
   pub durable : List (Asked Global)
@@ -63,6 +63,6 @@ progress_by p c = progress p.publisher.published (durable_of p) (store_view c.st
 abbrev pub is_checking : {D : Type 0} → StoreView Global D → Bool
 is_checking store = cond store.broken false (is_some store.ongoing)
 
--- the stage of the core that has come as far
+-- the stage of the core at this progress
 abbrev pub stage_of : {D : Type 0} → Progress D → Stage
 stage_of f = stage f.published f.durable (is_checking f.store) f.store.broken

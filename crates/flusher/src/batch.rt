@@ -27,8 +27,8 @@ use std::thread;
 pub(crate) const MOST: usize = 64;
 
 // How often the flusher lets other threads run while it expects a further command, before it commits a round's commands. It expects
-// one while a session is about to send another, so that commands submitted together are committed together; and while fewer stations
-// have sent theirs than in the round before, since those that were just answered may have more at hand.
+// one while a session is about to send another, so that commands submitted together are committed together. It also expects one while
+// fewer stations have sent theirs than in the last round with commands, since stations that were just answered may have more at hand.
 const TURNS: u32 = 64;
 
 /// The commands of a round, each with its copy, and how many stations sent those of the last round that had any. There is room for 64
@@ -74,13 +74,15 @@ fn has_more(entry: &Entry) -> bool {
     }
 }
 
-// How many stations have sent all that they send before they are answered, after one more entry.
+// How many stations have sent all that they send before they are answered, after one more entry. `done` is how many had before this
+// entry. `more`: the entry's sender is about to send another command.
 fn done_after(done: usize, more: bool) -> usize {
     if more { done } else { done.saturating_add(1) }
 }
 
-// How often the flusher lets other threads run before it stops waiting for the round's next entry. It never waits for the first, nor
-// once as many stations have sent all that they send before they are answered as in the round before.
+// How often the flusher lets other threads run before it stops waiting for the round's next entry. `done` stations have sent all that
+// they send before they are answered; in the last round with commands these were `stations`. The flusher waits if the last entry's
+// sender is about to send another command (`more`), or if some stations are done, but fewer than in that round.
 fn turns_before(more: bool, done: usize, stations: usize) -> u32 {
     if more || (0 < done && done < stations) {
         TURNS
@@ -119,8 +121,8 @@ impl Room {
     }
 }
 
-// Takes entries until there are 64 or the queue is empty (if it takes none, perhaps in an earlier round), and notes the stations that
-// ended. It returns how many stations have sent all that they send before they are answered.
+// Takes entries until there are 64 or the queue is empty, and notes the stations that ended. It returns how many stations have sent
+// all that they send before they are answered. If it takes no entry, the contract says only that the queue was found empty, now or earlier.
 fn take_entries<R: Wait>(rt: &R, taker: &mut Taker, room: &mut Room, ended: &mut Vec<bool>) -> usize
     requires empty { room.old.batch.items ≡ [] }
     requires flags { taker.old.made ≡ length ended.old.items }
@@ -141,8 +143,8 @@ fn take_entries<R: Wait>(rt: &R, taker: &mut Taker, room: &mut Room, ended: &mut
     done
 }
 
-/// Takes entries until there are 64 or the queue is empty (if it takes none, perhaps in an earlier round). It keeps the commands
-/// among them, and notes the stations that ended.
+/// Takes entries until there are 64 or the queue is empty. It keeps the commands among them, and notes the stations that ended. If it
+/// takes no entry, the contract says only that the queue was found empty, now or earlier.
 pub(crate) fn take_batch<R: Wait>(rt: &R, taker: &mut Taker, room: &mut Room, ended: &mut Vec<bool>)
     requires empty { room.old.batch.items ≡ [] }
     requires flags { taker.old.made ≡ length ended.old.items }

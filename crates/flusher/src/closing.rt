@@ -95,7 +95,7 @@ fn end_publisher<J: Centre, R: Wait>(rt: &R, publication: Publication<J>) {
 /// Closes a centre, and returns its store. `ended` has all sessions of the centre, in order of station.
 ///
 /// If the flusher has not taken the end of each session, flusher and sessions come back unchanged. If a session had seen what was never
-/// published, it would not return; no test met that.
+/// published, `close` would not return; no test met this.
 pub fn close<J: Centre, D: Disk, R: Wait>(
     rt: &R,
     flusher: Flusher<J, D>,
@@ -128,7 +128,8 @@ pub fn close<J: Centre, D: Disk, R: Wait>(
 
 impl<J: Centre, D: Disk> Flusher<J, D> {
     /// Returns the store without closing the centre. Entries that are still in the queue are lost, with their places: a session
-    /// that has none left waits for ever, also in `finish`. That one that waits for its answer gets `Closed` is in no clause.
+    /// that has no place left waits for ever, also in `finish`. No clause says that a session that waits for its answer gets
+    /// `Closed`.
     pub fn abandon<R: Wait>(self, rt: &R) -> Store<Global, D>
         ensures { store_view result ≡ (view_of self).store }
     {

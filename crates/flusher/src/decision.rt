@@ -8,8 +8,8 @@ use std::alloc::Global;
 pub enum Decision {
     /// The register's reply.
     Replied(Reply<Global>),
-    /// Out of memory: nothing was done.
+    /// Memory ran out before the command was accepted.
     NoMemory,
-    /// The device failed, or the store could not take it.
+    /// The device failed, now or earlier, or the last epoch is used up.
     Fault(StoreFault),
 }

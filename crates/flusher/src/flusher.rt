@@ -16,14 +16,14 @@ use std::sync::Wait;
 
 /// What is called in each round, before the round commits. No clause says that it is called, nor with what.
 pub trait Gate {
-    /// The round of this number, counted from 1, has taken `taken` commands, and commits them now.
+    /// The round of this number, counted from 1, has taken `taken` commands. It is about to commit or refuse them.
     fn before_commit(&self, round: u64, taken: usize);
 
     /// Called before `before_commit`: the figures of the store, or `None` once the disk has failed.
     fn show_store(&self, _figures: Option<Figures>) {}
 }
 
-/// The one thread that commits. It is not `Drop`: end it by `close`.
+/// The part of a centre that commits, publishes and answers. It is not `Drop`: end it by `close` or `abandon`.
 pub struct Flusher<J: Centre, D: Disk> {
     pub(crate) taker: Taker,
     pub(crate) senders: Vec<AnswerSender<Response<J>>>,
@@ -70,10 +70,10 @@ impl<J: Centre, D: Disk> Flusher<J, D> {
         ensures round { IsRound D.view J.base (view_of self.old) (view_of self.new) }
         ensures counted { (self.new.rounds ≡ self.old.rounds + 1) ⊎ ((self.old.rounds ≡ 2 ^ 64 - 1) × (self.new.rounds ≡ self.old.rounds)) }
 
-        // It is a call in the life of the disk. Each image of the disk opens to what is durable, or once the disk has failed
-        // perhaps to more. After a stop at any moment of the round, of a sound store, it opens to the register before the round
-        // or to the one after it. What bears out an answer was durable before it was sent. Only a failure of the disk breaks the
-        // store.
+        // The round is a call in the life of the disk. After it each image of the disk opens to what is durable, or once the disk
+        // has failed perhaps to more. If the store was sound before, a stop at any moment of the round leaves the register from
+        // before the round or after it. What bears out an answer was durable before the answer was sent. Only a failure of the
+        // disk breaks the store.
         ensures stored { IsStoredFor D.view J.base (view_of self.old) → IsRoundStored D.view J.base (view_of self.old) (view_of self.new) }
         ensures breaks { BreaksByDisk D.view (view_of self.old).store (view_of self.new).store }
     {

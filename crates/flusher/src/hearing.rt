@@ -18,7 +18,7 @@ use snapshots::{Centre, Published, Viewer};
 use std::alloc::Global;
 use std::sync::Wait;
 
-/// Receives the answer to a command that was put into the queue.
+/// Receives the answer to a command that was put into the queue. `reached` counts the commands that the session has reached.
 pub(crate) fn hear<J: Centre, R: Wait>(
     rt: &R,
     receiver: &mut AnswerReceiver<Response<J>>,

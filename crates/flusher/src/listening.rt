@@ -50,7 +50,7 @@ impl<J: Centre> Listening<J> {
         self.base
     }
 
-    // Waits for the next answer. `None`, which is noted, if the channel is empty and the flusher gone.
+    // Waits for the next answer. If the channel is empty and the flusher gone, it returns `None`, and notes that the flusher is gone.
     pub(crate) fn receive<R: Wait>(
         &mut self,
         rt: &R,

@@ -9,7 +9,7 @@ use sector_disk::Disk;
 use std::alloc::Global;
 use std::marker::{Model, PhantomData};
 
-// It takes no bytes. No other module can make one.
+// A moment takes no bytes. Other modules make one only by `of` and `copy`.
 #[derive(Drop)]
 pub(crate) struct Moment {
     marker: PhantomData<()>,

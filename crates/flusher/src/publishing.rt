@@ -24,7 +24,7 @@ pub struct Publication<J: Centre> {
     pub ghost within: { length publisher.published ≤ length publisher.appended },
 }
 
-/// What goes with each answer: the list that is published when it is sent, and that moment of the disk's clock.
+/// What goes with each answer: the list that is published when the answer is sent, and the moment by the disk's clock.
 #[derive(Drop)]
 pub(crate) struct Stamp<J: Centre> {
     pub(crate) published: Published<J>,
@@ -88,8 +88,8 @@ impl<J: Centre> Publication<J> {
         publish_all(rt, &mut self.publisher, &mut self.unpublished)
     }
 
-    /// Publishes what an earlier round left, unless the disk has failed. It returns whether all that is durable is published
-    /// then.
+    /// Publishes what an earlier round left, unless the disk has failed (`sound` is false). It returns whether the disk is sound
+    /// and all that is durable is published then.
     pub(crate) fn catch_up<R: Wait>(&mut self, rt: &R, sound: bool) -> bool
         requires { IsHistory J.base (durable_of self.old) }
         ensures durable { durable_of self.new ≡ durable_of self.old }
@@ -133,7 +133,7 @@ impl<J: Centre> Publication<J> {
         }
     }
 
-    /// Publishes what was just kept, if anything was. `all` is false only if something was, and memory ran out.
+    /// Publishes what was just kept, if anything was. The result's `all` is false only if something was kept and memory ran out.
     pub(crate) fn publish_new<R: Wait>(&mut self, rt: &R, moment: Moment) -> Shown<J>
         requires history { IsHistory J.base (durable_of self.old) }
         requires level { self.old.publisher.published ≡ self.old.publisher.appended }

@@ -11,7 +11,7 @@ use station_queue::SharedCommand;
 use std::alloc::Global;
 use std::marker::Model;
 
-/// An answer as it is sent: with its command, the list that was published then, and that moment of the disk's clock.
+/// An answer as it is sent: with its command, the list that is published then, and the moment by the disk's clock.
 #[derive(Drop)]
 pub struct Response<J: Centre> {
     pub(crate) command: SharedCommand,

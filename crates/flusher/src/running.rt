@@ -25,13 +25,14 @@ impl<J: Centre, D: Disk> Flusher<J, D> {
         ensures settled { IsSettled J.base (view_of self.new) }
         ensures rounds { AreRounds D.view J.base (view_of self.old) (view_of self.new) }
 
-        // Each image of the disk opens to what is durable, or once the disk has failed perhaps to more. After a stop at any moment
-        // of the run it opens to a list between what was durable before and after it, and to no less than was durable at the end
-        // of the round before. What bears out an answer was durable before it was sent. Only a failure of the disk breaks the store.
+        // After the run each image of the disk opens to what is durable, or once the disk has failed perhaps to more. If the store
+        // was sound before, a stop at any moment of the run leaves a list between what was durable before and after the run, or once
+        // the disk has failed perhaps more. After a stop once a round has ended the disk opens to no less than was durable at the end
+        // of that round. What bears out an answer was durable before the answer was sent. Only a failure of the disk breaks the store.
         ensures stored { IsStoredFor D.view J.base (view_of self.old) → AreRoundsStored D.view J.base (view_of self.old) (view_of self.new) }
         ensures breaks { BreaksByDisk D.view (view_of self.old).store (view_of self.new).store }
 
-        // It ends as soon as the end of each session was taken, with the queue and the channels that it had.
+        // The run ends as soon as the end of each session was taken. The flusher has the queue and the channels that it had.
         ensures ended { HasTakenEnds (view_of self.new) }
         ensures at_once { HasStopped D.view J.base (view_of self.old) (view_of self.new) }
         ensures same { HasSameEnds (view_of self.old) (view_of self.new) }

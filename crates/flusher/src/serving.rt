@@ -26,7 +26,7 @@ use std::alloc::Global;
 use std::collections::VecDeque;
 use std::sync::Wait;
 
-// What a commit gave, and the moment after it.
+// The outcomes of a commit, and the moment after it.
 #[derive(Drop)]
 struct Committed {
     outcomes: Vec<Outcome<Global>>,
@@ -53,7 +53,7 @@ fn publish_and_answer<J: Centre, R: Wait>(
     answer_all(rt, senders, &shown, batch, outcomes);
 }
 
-/// Gives each command of the batch the same answer, and drops its copy.
+/// Gives each command of the batch the same answer, and drops its copy. The answer is this fault, or out of memory for `None`.
 pub(crate) fn refuse<J: Centre, R: Wait>(
     rt: &R,
     stamp: &Stamp<J>,
@@ -79,7 +79,7 @@ fn reason_of(fault: StoreFault) -> Option<StoreFault>
     }
 }
 
-/// Commits a batch, publishes what is accepted, and answers each command. All that was durable before is published.
+/// Commits a batch, publishes what is accepted, and answers each command. The caller has published all that was durable before.
 pub(crate) fn commit_and_answer<J: Centre, D: Disk, R: Wait>(
     rt: &R,
     committer: &mut Committer<D>,
@@ -89,8 +89,14 @@ pub(crate) fn commit_and_answer<J: Centre, D: Disk, R: Wait>(
 )
     requires ready { IsReady J.base publication.old committer.old }
     requires stations { AreWithin (length senders.old.items) (commands_in room.old.batch.items) }
+
+    // What became of the commands, and the answer to each of them.
     ensures served { HasServedFrom publication.old committer.old publication.new committer.new room.old D.view J.base senders.old senders.new }
+
+    // What is durable and what is published, also after the disk failed in the commit.
     ensures durable { IsAfterCommit publication.old committer.old publication.new committer.new room.old J.base }
+
+    // To what the disk opens after a stop at any moment of the call, and that only a failure of the disk breaks the store.
     ensures store { KeepsStore D.view (store_view committer.old.store) (store_view committer.new.store) }
     ensures done { room.new.batch.items ≡ [] }
 {

@@ -76,7 +76,7 @@ impl<J: Centre> Session<J> {
     /// Submits a command of its station, and waits for the answer. It returns `NoMemory` also if memory runs out before the
     /// command is put into the queue. It returns `Closed` only if the flusher was found gone, or if what was received does not
     /// fit: it is for another command, lacks commands that the session has seen, or accepts under a number that was seen. Once
-    /// the flusher is gone it may wait for ever, if all its places are taken.
+    /// the flusher is gone the call may wait for ever, if all the session's places in the queue are taken.
     pub fn submit<R: Wait>(&mut self, rt: &R, command: Command<Global>) -> Answer<J>
         requires station { command.station ≡ self.old.sender.station }
 
@@ -84,7 +84,7 @@ impl<J: Centre> Session<J> {
         ensures submitted { IsSubmission J.base command (view_of self.old) (view_of self.new) result }
         ensures seen { IsPrefix self.old.viewer self.new.viewer }
 
-        // The PDU that it gives has at most 2,048 bits.
+        // A PDU in the answer has at most 2,048 bits.
         ensures short { HasShortAnswer result }
 
         // If it was put into the queue and no answer was received, the flusher was found gone.
@@ -110,7 +110,7 @@ impl<J: Centre> Session<J> {
 
     /// Submits commands of its station, at most its share, and then waits for the answer to each, in order. So one commit can take
     /// them all. Each is answered as by [`Session::submit`]. Once memory has run out for one, that one and all after it are
-    /// answered `NoMemory`, and not put into the queue. `answers` gets the answers alone, and no more memory.
+    /// answered `NoMemory`, and not put into the queue. `answers` then has these answers alone, in the memory that it had.
     pub fn submit_all<R: Wait>(
         &mut self,
         rt: &R,
@@ -121,7 +121,8 @@ impl<J: Centre> Session<J> {
         requires few { length commands.now ≤ self.old.share }
         requires room { length commands.now ≤ vec_capacity answers.old }
 
-        // Each is submitted and answered after the one before it. A prefix of them is put into the queue, and memory ran out for the others.
+        // Each is answered as if it were submitted after the answer to the one before it. A prefix of them is put into the queue, and the
+        // others are answered as out of memory.
         ensures submitted { AreSubmissions J.base commands.now (view_of self.old) (view_of self.new) answers.new.items }
         ensures put { ArePutFirst commands.now self.old.sender.sent self.new.sender.sent answers.new.items }
         ensures seen { IsPrefix self.old.viewer self.new.viewer }
@@ -144,9 +145,10 @@ impl<J: Centre> Session<J> {
         refuse_all(answers, commands.len() - put);
     }
 
-    /// The answer to a query after a list of commands, kept under `alloc`, with the length of that list. Each of them was
-    /// accepted in its turn, and the list begins with all that the session has seen. It never waits. `NoMemory` comes only
-    /// where the answer is a list; the session may then have seen more. After `Closed` it has seen no more than before.
+    /// The answer to a query after a list of commands, and the length of this list. The answer's memory comes from `alloc`. Each
+    /// of the commands was accepted in its turn, and the list begins with all that the session has seen. The call never waits.
+    /// `NoMemory` comes only where the answer is a list; the session may then have seen more. After `Closed` it has seen no more
+    /// than before.
     pub fn read<C: Allocator + Copy>(
         &mut self,
         alloc: C,
@@ -184,7 +186,7 @@ impl<J: Centre> Session<J> {
         self.viewer.list(listing, out)
     }
 
-    /// From now on what it reads begins with this list too. It never waits.
+    /// From now on what the session reads begins with this published list too. The call never waits.
     pub fn learn(&mut self, published: &Published<J>)
         ensures one { (self.new.viewer ≡ self.old.viewer) ⊎ (self.new.viewer ≡ published.now) }
         ensures learnt { IsPrefix published.now self.new.viewer }

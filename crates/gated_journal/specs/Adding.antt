@@ -14,12 +14,12 @@ use Rattle.gated_journal.specs.declared.place.Place.{Place}
 module _ {B : Type 0} (A : Type 0) where
   -- What an append of one record, of these commands, does to the disk and to a place. `after` is the place after the call.
   pub record AddsOne (old new : View) (place after : Place) (commands : List (Bor (Asked B))) (result : Result Unit JournalError) : Type 0 where
-    -- A stop at any moment of the call leaves in the half the records from before it, with the new one whole or without it.
+    -- A stop at any moment of the call leaves in the half the records from before the call, with the new one whole or without it.
     -- Outside the half it leaves what a stop before the call could leave.
     pub any_moment : (before : ℕ) (entries : List (Entry A)) → old.honest → IsSettled old place before entries
         → LeavesOnly old new (Leaves old place before entries (new_entry A place commands))
-    -- At `Ok` each stop leaves the new record too, nothing is pending, and all outside the half reads as before the call. The
-    -- next record then goes after the new one.
+    -- At `Ok` a stop after the call leaves the new record too. Nothing is pending, and all outside the half reads as before the
+    -- call. `after` counts the new commands, and its next gate is the one after the new record.
     pub acknowledged : OnOk result ((before : ℕ) (entries : List (Entry A)) → old.honest → IsSettled old place before entries
         → HasOneMore new after before entries (new_entry A place commands))
     pub durable : old.honest → OnOk result ((k : ℕ) → new.pending k ≡ false)
@@ -33,12 +33,12 @@ module _ {B : Type 0} (A : Type 0) where
   -- `y_after` are the places after the call.
   pub record AddsToBoth (old new : View) (x x_after y y_after : Place) (commands : List (Bor (Asked B))) (result : Result Unit JournalError)
       : Type 0 where
-    -- A stop at any moment of the call leaves in each half the records from before it, with the new one whole or without it. It
-    -- may be in one half alone. Outside the two halves a stop leaves what a stop before the call could leave.
+    -- A stop at any moment of the call leaves in each half the records from before the call, with the new one whole or without it.
+    -- The new record may be in one half alone. Outside the two halves a stop leaves what a stop before the call could leave.
     pub any_moment : (before start : ℕ) (entries others : List (Entry A)) → old.honest → IsSettled old x before entries → IsSettled old y start others
         → LeavesOnly old new (LeavesBoth old x y before start entries others (new_entry A x commands) (new_entry A y commands))
-    -- At `Ok` each stop leaves the new record in both halves, nothing is pending, and all outside them reads as before the
-    -- call. The next record of each half then goes after the new one.
+    -- At `Ok` a stop after the call leaves the new record in both halves. Nothing is pending, and all outside the halves reads as
+    -- before the call. `x_after` and `y_after` count the new commands, and their next gates are those after the new record.
     pub acknowledged : OnOk result ((before start : ℕ) (entries others : List (Entry A)) → old.honest
         → IsSettled old x before entries → IsSettled old y start others
         → HaveOneMore new x_after y_after before start entries others (new_entry A x commands) (new_entry A y commands))

@@ -29,8 +29,8 @@ append_calls gate text =
 abbrev pub text_calls : Sector → List Byte → List Call
 text_calls gate text = writes (gate + 1) (data_size text) (data_sector text) ++ Write (gate + 1 + data_size text) closed_gate ∷ []
 
--- The append of two records' texts. Both texts are written, the gates after them are closed, and all that is synced. Then the
--- gates of both records are opened, and synced. Nothing is read.
+-- The append of two records: `text` after the gate `gate`, and `other` after the gate `also`. Both texts are written, the gates
+-- after them are closed, and all that is synced. Then the gates of both records are opened, and synced. Nothing is read.
 abbrev pub append_both_calls : Sector → List Byte → Sector → List Byte → List Call
 append_both_calls gate text also other = text_calls gate text ++ (text_calls also other ++ Sync ∷ Write gate open_gate ∷ Write also open_gate ∷ Sync ∷ [])
 

@@ -22,7 +22,8 @@ IsClosed bytes = slice_index bytes 0 ≢ 1
 abbrev pub is_open : List ℕ → Bool
 is_open bytes = slice_index bytes 0 == 1
 
--- how many data sectors a record takes, as its first data sector states
+-- How many data sectors a record takes, as its first data sector states. The 6 or 14 bytes of the head count too: 517 is
+-- 6 + 511, and 525 is 14 + 511.
 abbrev pub stated_size : Form → List Byte → Sectors
 stated_size Plain bytes = (big_from 2 4 bytes + 517) / 512
 stated_size Numbered bytes = (big_from 10 4 bytes + 525) / 512
@@ -48,8 +49,8 @@ Half A = Result (List (Entry A) × Sector) Sector
 abbrev pub fits_after : Sector → Sector → Sectors → Bool
 fits_after at end size = nat_le size most_sectors && nat_lt (at + 1 + size) end
 
--- What follows an open gate: `make` gives it from the number of the record's data sectors. A gate in the half's last sector
--- is itself at fault. A record that does not fit is a fault of its first data sector.
+-- What follows the open gate `at`, where a record of `size` data sectors is stated: `make size` where the record fits. A gate in
+-- the half's last sector is itself at fault. A record that does not fit is a fault of its first data sector.
 abbrev pub after_gate : {X : Type 0} → Sector → Sector → Sectors → (Sectors → Result (Option X) Sector) → Result (Option X) Sector
 after_gate at end size make = if at + 1 == end then Err at else if fits_after at end size then make size else Err (at + 1)
 

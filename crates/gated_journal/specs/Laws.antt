@@ -17,7 +17,7 @@ abbrev pub TextsAreReadBack : Type 0 → Type 0
 TextsAreReadBack A = (form : Form) (before : ℕ) (commands : List (Asked A)) (z : ℕ) → before < last_number → IsRecord commands
     → record_of form before (record_text form before commands ++ replicate z 0) ≡ Some commands
 
--- the commands that bytes are read as are such that a record may have them (`IsRecord`)
+-- if bytes are read as a record's commands, a record may have these commands (`IsRecord`)
 abbrev pub ReadAreInRange : Type 0 → Type 0
 ReadAreInRange A = (form : Form) (before : ℕ) (commands : List (Asked A)) (bytes : List Byte) → AreBytes bytes → record_of form before bytes ≡ Some commands
     → IsRecord commands

@@ -12,15 +12,16 @@ use Rattle.gated_journal.specs.declared.record.Record.{Record}
 use Rattle.gated_journal.specs.declared.fault.JournalError.{JournalError}
 use Rattle.gated_journal.specs.declared.fault.JournalError.TheVariants.{JournalFull, DiskFault, Damaged, NoMemory}
 
--- What an error of a read states of what is there. `Damaged` names the sector at fault. `DiskFault` and `NoMemory` state
--- nothing, and `JournalFull` does not come.
+-- What an error of a read states of `is`, which is what the disk reads as. `Damaged` names the sector at fault. `DiskFault` and
+-- `NoMemory` state nothing. `JournalFull` does not come.
 abbrev pub Fails : {Y : Type 0} → JournalError → Result Y Sector → Type 0
 Fails (Damaged at) is = is ≡ Err at
 Fails DiskFault is = Unit {0}
 Fails NoMemory is = Unit {0}
 Fails JournalFull is = ⊥
 
--- What was read, as `view` gives it, is what is there, unless the device or memory fails.
+-- A read answers `is`, which is what the disk reads as. At `Ok`, `is` equals what was read, as `view` models it. An error
+-- is as `Fails` states.
 abbrev pub Answers : {X Y : Type 0} → (X → Y) → Result X JournalError → Result Y Sector → Type 0
 Answers view (Ok x) is = is ≡ Ok (view x)
 Answers view (Err e) is = Fails e is
@@ -32,8 +33,8 @@ IsOfReading end DiskFault = Unit {0}
 IsOfReading end (Damaged at) = at < end
 IsOfReading end NoMemory = Unit {0}
 
--- an error that a call which only judges may answer: `DiskFault`, or `Damaged` with a sector before the end of the half; not
--- `NoMemory`, as it takes none
+-- An error that a call which only judges may answer: `DiskFault`, or `Damaged` with a sector before the end of the half. Such a
+-- call takes no memory, so `NoMemory` does not come.
 abbrev pub IsOfJudging : Sector → JournalError → Type 0
 IsOfJudging end JournalFull = ⊥
 IsOfJudging end DiskFault = Unit {0}
@@ -68,8 +69,8 @@ module _ {A : Type 0} where
 
   -- ---- where a journal is after what was read
 
-  -- `after` is a place in the half of `place`, with records of the same form. Its next gate is that of `place` or a later one,
-  -- before the half's end. It counts the commands of these records too.
+  -- `after` is where a journal at `place` continues after these records. Both have the same half and the same form. The next gate of
+  -- `after` is that of `place` or a later one, before the half's end. `after` counts the commands of these records too.
   pub record Continues (place after : Place) (entries : List (Entry A)) : Type 0 where
     pub first : after.first ≡ place.first
     pub end : after.end ≡ place.end
@@ -78,8 +79,8 @@ module _ {A : Type 0} where
     pub within : after.next < place.end
     pub count : after.count ≡ counted place.count entries
 
-  -- Where a journal is after it has read at its next gate. After a record its next gate is a later one in the half, and it
-  -- counts the record's commands too. Where there was none, the journal has not changed.
+  -- Where a journal is after a read at its next gate: it was at `place`, and is at `after`, in the same half. If a record was read,
+  -- `after` has a later gate and counts the record's commands too. If the gate was closed, `after` is `place`.
   pub record MovesOn (place after : Place) (result : Result (Option (Sector × Vec (Asked A) A)) JournalError) : Type 0 where
     pub at : IfOk result (λ found. IfSome found (λ x. (x.0 ≡ place.next + 1) × (x.0 < after.next)))
     pub first : after.first ≡ place.first
@@ -92,19 +93,20 @@ module _ {A : Type 0} where
 
   -- ---- what is judged and not kept
 
-  -- What a judgement answers is what is at the gate: nothing, or a record of so many commands and this next gate. An error is
-  -- as `Fails` states.
+  -- A judgement answers `is`, which is what the disk reads as at a gate. At `Ok` the answer is nothing, or how many commands the
+  -- record has and the next gate. An error is as `Fails` states.
   abbrev pub IsJudged : Result (Option (ℕ × Sector)) JournalError → Found A → Type 0
   IsJudged (Ok None) is = is ≡ Ok None
   IsJudged (Ok (Some count_and_next)) is = (commands : List (Asked A)) × (length commands ≡ count_and_next.0) × (is ≡ Ok (Some (commands, count_and_next.1)))
   IsJudged (Err e) is = Fails e is
 
-  -- At `Ok` there are records alone, up to a closed gate. An error is as `Fails` states.
+  -- What a judgement states of `is`, which is what a half reads as. At `Ok` there are records alone, up to a closed gate. An error
+  -- is as `Fails` states.
   abbrev pub AreJudged : Result Unit JournalError → Half A → Type 0
   AreJudged (Ok u) is = (held : List (Entry A) × Sector) × (is ≡ Ok held)
   AreJudged (Err e) is = Fails e is
 
--- so many calls of the disk were made
+-- the disk has had `times` more calls in `new` than in `old`
 abbrev pub HasCalledTimes : View → View → ℕ → Type 0
 HasCalledTimes old new times = length new.calls ≡ length old.calls + times
 
@@ -130,7 +132,7 @@ HasRecordsIn A place disk = HasRecords A place.form place.count disk.reads place
 abbrev pub IsUnreadOrWhole : Type 0 → Place → View → View → Type 0
 IsUnreadOrWhole A place old new = (new.calls ≡ old.calls) ⊎ HasRecordsIn A place old
 
--- Where there are records alone from the next gate of a place on, the disk has had one call for each sector from that gate up
--- to the closed one after them, with both gates.
+-- If there are records alone from the next gate of a place on, a closed gate follows them. The disk has then had as many calls as
+-- there are sectors from the one gate to the other, both included.
 abbrev pub IsReadOnce : Type 0 → Place → View → View → Type 0
 IsReadOnce A place old new = (held : List (Entry A) × Sector) → half_in A place old ≡ Ok held → HasCalledTimes old new (held.1 + 1 - place.next)

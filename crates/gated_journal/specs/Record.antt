@@ -17,7 +17,7 @@ use Rattle.gated_journal.specs.declared.form.Form.TheVariants.{Numbered, Plain}
 abbrev pub most_commands : ℕ
 most_commands = 64
 
--- the most data sectors that a record may have: those of the most commands, each of the longest
+-- the most data sectors that a record may have: as many as `most_commands` commands of the greatest length take
 abbrev pub most_sectors : Sectors
 most_sectors = 36
 
@@ -46,7 +46,7 @@ abbrev pub first_text : Option ℕ → List Byte
 first_text None = []
 first_text (Some number) = big 8 number
 
--- how many commands, the number of the first one, how many bytes they take, and their bytes
+-- how many commands (2 bytes), the number of the first one where it is stated, how many bytes they take (4 bytes), and their bytes
 unfoldable pub packed_text : Packed → List Byte
 packed_text packed = big 2 packed.count ++ (first_text packed.first ++ (big 4 (length packed.bytes) ++ packed.bytes))
 
@@ -89,12 +89,13 @@ is_zero b = b == 0
 abbrev pub is_in_range : ℕ → Bytes → Bool
 is_in_range count size = nat_le 1 count && nat_le count most_commands && nat_le size (longest * count)
 
--- the number of the first command, where the form has one
+-- the number of the first command, where the form has one, and the bytes after it
 unfoldable pub first_at : Form → List Byte → Read (Option ℕ)
 first_at Plain bytes = Some (None, bytes)
 first_at Numbered bytes = number_at 8 bytes >>= λ number. Some (Some number.0, number.1)
 
--- what all data sectors of a record hold: count and length in range, as many bytes as the length states, and zeros after them
+-- The parts of a record, from the bytes of all its data sectors. `None` where the count or the length is out of range, or where
+-- the bytes end too soon. Also `None` where a byte after the commands is not zero.
 unfoldable pub packed_of : Form → List Byte → Option Packed
 packed_of form bytes = do
   count ← number_at 2 bytes
@@ -103,7 +104,8 @@ packed_of form bytes = do
   if is_in_range count.0 size.0 && nat_le size.0 (length size.1) && list_all is_zero (drop size.0 size.1)
       then Some (record { count = count.0; first = first.0; bytes = take size.0 size.1 }) else None
 
--- A record that states a number follows exactly the commands before it. One that states none follows any.
+-- A record that states a number may follow `before` accepted commands only if its number is `before + 1`. A record that states no
+-- number may follow any.
 abbrev pub follows : ℕ → Option ℕ → Bool
 follows before None = true
 follows before (Some number) = number == before + 1

@@ -55,8 +55,8 @@ half_in A place disk = half_of {A = A} place.form place.count disk.reads place.n
 abbrev pub IsSameOutsideBoth : Place → Place → View → View → Type 0
 IsSameOutsideBoth x y old new = (k : ℕ) → (k < x.first) ⊎ (x.end ≤ k) → (k < y.first) ⊎ (y.end ≤ k) → sector new.reads k ≡ sector old.reads k
 
--- The number of each command that may come after the next gate fits 8 bytes: a record takes at least two sectors, and has at
--- most 64 commands.
+-- The place's count, plus 64 for each sector from the next gate up to the half's end, fits 8 bytes. So the number of each command
+-- that may come after the next gate fits too.
 abbrev pub IsCounted : Place → Type 0
 IsCounted place = place.count + most_commands * (place.end - place.next) < 2 ^ 64
 
@@ -69,13 +69,13 @@ module _ {A : Type 0} where
   abbrev pub IsWithOrWithout : Place → ℕ → List (Entry A) → Entry A → List (List Byte) → Type 0
   IsWithOrWithout place before entries last image = IsHalf image place before entries ⊎ IsHalf image place before (entries ++ last ∷ [])
 
-  -- The image is one of the old disk but for the half, which reads as these records, with one more after them or without it.
+  -- Outside the half the image is one of the old disk. The half reads as these records, with `last` after them or without it.
   pub record Leaves (old : View) (place : Place) (before : ℕ) (entries : List (Entry A)) (last : Entry A) (image : List (List Byte)) : Type 0 where
     pub elsewhere : IsTornImage old place.first (place.end - place.first) image
     pub half : IsWithOrWithout place before entries last image
 
-  -- In every image the half, after so many accepted commands, reads as these records. They end at the next gate, and the
-  -- place counts their commands too.
+  -- In every image the half, after `before` accepted commands, reads as these records. They end at the place's next gate. The
+  -- place counts `before` commands and those of the records.
   pub record IsSettled (disk : View) (place : Place) (before : ℕ) (entries : List (Entry A)) : Type 0 where
     pub begins : place.first < place.end
     pub within : place.next < place.end
@@ -86,16 +86,16 @@ module _ {A : Type 0} where
   abbrev pub HasOneMore : View → Place → ℕ → List (Entry A) → Entry A → Type 0
   HasOneMore disk place before entries last = IsSettled disk place before (entries ++ last ∷ [])
 
-  -- in every image each of two halves reads as its own records, after its own count of accepted commands
+  -- In every image the half of x reads as `entries` after `before` accepted commands. The half of y reads as `others` after `start`.
   abbrev pub AreSettled : View → Place → Place → ℕ → ℕ → List (Entry A) → List (Entry A) → Type 0
   AreSettled disk x y before start entries others = IsSettled disk x before entries × IsSettled disk y start others
 
-  -- in every image each of two halves reads as its own records and one more after them
+  -- in every image the halves of x and y read as with `AreSettled`, and each has one more record: `last` in x, `other` in y
   abbrev pub HaveOneMore : View → Place → Place → ℕ → ℕ → List (Entry A) → List (Entry A) → Entry A → Entry A → Type 0
   HaveOneMore disk x y before start entries others last other = AreSettled disk x y before start (entries ++ last ∷ []) (others ++ other ∷ [])
 
-  -- The image is one of the old disk but for two halves. Each of them reads as its records, with one more after them or without
-  -- it; one may have it and the other not.
+  -- Outside the halves of x and y the image is one of the old disk. Each half reads as its records, with its new record (`last` in
+  -- x, `other` in y) after them or without it. One half may have its new record and the other not.
   pub record LeavesBoth (old : View) (x y : Place) (before start : ℕ) (entries others : List (Entry A)) (last other : Entry A)
       (image : List (List Byte)) : Type 0 where
     pub elsewhere : IsTornTwiceImage old x.first (x.end - x.first) y.first (y.end - y.first) image

@@ -11,7 +11,7 @@ use crate::place::{fill, sectors_for};
 use sector_disk::{Disk, DiskError};
 use std::alloc::Allocator;
 
-// The first sectors of a text, and the sector of the disk where they begin.
+// The first `sectors` sectors of a text, and the sector `at` of the disk where they are to be written.
 #[derive(Drop)]
 struct Run<'a> {
     at: u64,
@@ -37,7 +37,8 @@ fn settle_both<D: Disk>(disk: &mut D, first: &Run<'_>, second: &Run<'_>) -> Resu
     disk.sync()
 }
 
-// Adds a record to two halves, whose texts are of the same commands under the allocator A. The caller counts the commands.
+// Adds a record to two halves, with a text for each half. Both texts are of one list of commands under the allocator A. The caller
+// adds the commands to `count` of both places.
 pub(crate) fn append_texts<A: Allocator, D: Disk>(
     disk: &mut D,
     place: &mut Place,
@@ -54,7 +55,7 @@ pub(crate) fn append_texts<A: Allocator, D: Disk>(
     requires fits { place.old.next + data_size text.now + 2 ≤ place.old.end }
     requires other_fits { other.old.next + data_size other_text.now + 2 ≤ other.old.end }
 
-    // In each half a stop leaves the records with the new one or without. At `Ok` each stop leaves it in both.
+    // In each half a stop leaves the records with the new one or without it. At `Ok` a stop after the call leaves the new one in both.
     ensures adds { AddsTexts A (D.view disk.old) (D.view disk.new) place.old place.new other.old other.new text.now other_text.now result }
     ensures same { OnErr result ((place.new ≡ place.old) × (other.new ≡ other.old)) }
     ensures keeps { KeepsDisk (D.view disk.old) (D.view disk.new) (IsErr result) }

@@ -120,8 +120,8 @@ impl<A: Allocator> Journal<A> {
 
     /// Adds these commands, 1 to 64, as one record. Takes no memory.
     ///
-    /// At `Ok` each stop leaves it. After `DiskFault` read the half again. `JournalFull` comes where the record has more data
-    /// sectors than `room`. Nothing is then written.
+    /// At `Ok` a stop after the call leaves the record. After `DiskFault` read the half again. `JournalFull` comes where the
+    /// record has more data sectors than `room`. Nothing is then written.
     pub fn append<D: Disk, B: Allocator>(
         &mut self,
         disk: &mut D,
@@ -132,7 +132,8 @@ impl<A: Allocator> Journal<A> {
         requires few { length commands.now ≤ most_commands }
         requires counts { self.old.count + length commands.now ≤ last_number }
 
-        // A stop leaves the records with the new one whole or without it. At `Ok` each stop leaves it, and the journal goes on after it.
+        // A stop leaves the records with the new one whole or without it. At `Ok` a stop after the call leaves the new one, and the
+        // journal goes on after it.
         ensures adds { AddsOne A (D.view disk.old) (D.view disk.new) self.old self.new commands.now result }
         ensures same { OnErr result (self.new ≡ self.old) }
         ensures keeps { KeepsDisk (D.view disk.old) (D.view disk.new) (IsErrOf result JournalError.DiskFault) }
@@ -154,7 +155,7 @@ impl<A: Allocator> Journal<A> {
     /// Adds these commands, 1 to 64, as one record to this journal and to another one, in the same two syncs. Takes no
     /// memory. The two halves share no sector, and the record fits both.
     ///
-    /// At `Ok` each stop leaves it in both. After `DiskFault`, the only refusal, read both halves again.
+    /// At `Ok` a stop after the call leaves the record in both. After `DiskFault`, the only error, read both halves again.
     pub fn append_both<D: Disk, B: Allocator>(
         &mut self,
         disk: &mut D,
@@ -170,8 +171,8 @@ impl<A: Allocator> Journal<A> {
         requires counts { self.old.count + length commands.now ≤ last_number }
         requires other_counts { other.old.count + length commands.now ≤ last_number }
 
-        // In each half a stop leaves the records with the new one whole or without it. At `Ok` each stop leaves it in both, and each
-        // journal goes on after it.
+        // In each half a stop leaves the records with the new one whole or without it. At `Ok` a stop after the call leaves the new one
+        // in both, and each journal goes on after it.
         ensures adds { AddsToBoth A (D.view disk.old) (D.view disk.new) self.old self.new other.old other.new commands.now result }
         ensures same { OnErr result ((self.new ≡ self.old) × (other.new ≡ other.old)) }
         ensures keeps { KeepsDisk (D.view disk.old) (D.view disk.new) (IsErr result) }

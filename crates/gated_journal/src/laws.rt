@@ -5,7 +5,7 @@ ghost use Rattle.gated_journal.specs.Laws.{ClosedIsEmpty, HeldIsRead, ReadAreInR
 use sector_disk::Disk;
 use std::alloc::Allocator;
 
-/// Bytes are read as a record after so many accepted commands exactly where they are its text there, with zeros after it.
+/// Bytes are read as a record after so many accepted commands exactly where they are the record's text, with zeros after it.
 pub fn records<A: Allocator>()
     ensures read_back { TextsAreReadBack A }
     ensures in_range { ReadAreInRange A }

@@ -20,7 +20,7 @@ use std::alloc::Allocator;
 pub struct Place {
     /// The half's first sector.
     pub first: u64,
-    /// The sector after its last.
+    /// The sector after the half's last one.
     pub end: u64,
     /// The next record's gate.
     pub next: u64,
@@ -38,7 +38,7 @@ impl Place {
         self.end.saturating_sub(self.next).saturating_sub(2)
     }
 
-    // Adds a record with this text, whose commands are under the allocator A. The caller counts the commands.
+    // Adds a record with this text, whose commands are under the allocator A. The caller adds them to `count`.
     pub(crate) fn append_text<A: Allocator, D: Disk>(
         &mut self,
         disk: &mut D,
@@ -49,7 +49,7 @@ impl Place {
         requires some { 0 < length text.now }
         requires small { length text.now < 2 ^ 32 }
 
-        // A stop leaves the records with the new one or without. At `Ok` each stop leaves it.
+        // A stop leaves the records with the new one or without it. At `Ok` a stop after the call leaves the new one too.
         ensures adds { AddsText A (D.view disk.old) (D.view disk.new) self.old self.new text.now result }
         ensures same { OnErr result (self.new ≡ self.old) }
         ensures keeps { KeepsDisk (D.view disk.old) (D.view disk.new) (IsErrOf result JournalError.DiskFault) }
@@ -106,7 +106,7 @@ fn sector_of(text: &[u8], k: usize) -> [u8; 512]
     padded(&text[begin..end])
 }
 
-// Writes the first n sectors of a text from a sector on.
+// Writes the first n sectors of a text from the disk's sector `at` on.
 pub(crate) fn fill<D: Disk>(disk: &mut D, at: u64, n: u64, text: &[u8]) -> Result<(), DiskError>
     requires room { at + n ≤ (D.view disk.old).sectors }
     requires fits { at + n < 2 ^ 64 }
@@ -120,7 +120,7 @@ pub(crate) fn fill<D: Disk>(disk: &mut D, at: u64, n: u64, text: &[u8]) -> Resul
     Ok(())
 }
 
-// Writes the first n sectors of a text from a sector on, and syncs them.
+// Writes the first n sectors of a text from the disk's sector `at` on, and syncs them.
 fn settle<D: Disk>(disk: &mut D, at: u64, n: u64, text: &[u8]) -> Result<(), DiskError>
     requires room { at + n ≤ (D.view disk.old).sectors }
     requires fits { at + n < 2 ^ 64 }

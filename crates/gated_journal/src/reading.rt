@@ -25,7 +25,7 @@ use std::alloc::Allocator;
 // How many data sectors a record may have.
 pub(crate) const MOST_SECTORS: u64 = 36;
 
-// Adds the bytes of a run's sectors, from the one numbered `from` up to n. The buffer has room for them.
+// Adds to the buffer the bytes of the sectors from `at + from` up to, but not including, `at + n`. The buffer has room for them.
 fn read_sectors<A: Allocator, D: Disk>(
     disk: &mut D,
     at: u64,
@@ -51,7 +51,7 @@ fn read_sectors<A: Allocator, D: Disk>(
     Ok(())
 }
 
-// The number in the four bytes at a place.
+// The number in the four bytes from the byte `at` on.
 fn number_from(bytes: &[u8; 512], at: usize) -> u64
     requires { at + 4 ≤ 512 }
     ensures { result ≡ big_from at 4 bytes.now }
@@ -197,7 +197,8 @@ pub(crate) fn judge_half<A: Allocator, D: Disk>(
     Ok(())
 }
 
-// Reads these records. Where memory runs out, all of them are judged before that is reported.
+// Reads the records from the next gate of a place on, as `read_half` does. Where memory runs out, all records are judged before
+// `NoMemory` is reported.
 pub(crate) fn read_or_judge<A: Allocator + Clone, D: Disk>(
     alloc: A,
     disk: &mut D,

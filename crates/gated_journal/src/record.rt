@@ -101,7 +101,7 @@ fn are_commands<A: Allocator>(count: u64, bytes: &[u8]) -> bool
     rest.is_empty()
 }
 
-// So many commands in order, where no byte follows them.
+// The bytes as so many commands in order. `None` where they are not that, or where other bytes follow the commands.
 fn commands_in<A: Allocator + Clone>(
     alloc: A,
     count: u64,
@@ -125,7 +125,7 @@ fn commands_in<A: Allocator + Clone>(
     }
 }
 
-// The commands of a record. Out of memory never replaces another answer.
+// The commands of a record, or `None` where its bytes are not as many as it states. `AllocError` comes only where they are.
 fn whole<A: Allocator + Clone>(
     alloc: A,
     packed: &Packed<'_>,
@@ -184,7 +184,9 @@ pub fn decode_record<A: Allocator + Clone>(
     }))
 }
 
-/// The commands of the record in all of its data sectors, where its number follows so many accepted commands.
+/// The commands of the record in all of its data sectors, where the record may follow `before` accepted commands.
+///
+/// `None` where the bytes are not such a record's. `AllocError` comes only where they are.
 pub(crate) fn decode_next<A: Allocator + Clone>(
     alloc: A,
     form: Form,

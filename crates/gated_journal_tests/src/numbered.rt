@@ -64,7 +64,7 @@ fn is_read<D: Disk>(
     }
 }
 
-/// Whether it is judged as it is read, before any record is given.
+/// Whether a half of six sectors, after so many accepted commands, is judged as wanted.
 fn is_judged<D: Disk>(
     alloc: Global,
     disk: &mut D,

@@ -14,7 +14,7 @@ pub(crate) enum Call {
 /// The calls that a disk got, in order.
 pub(crate) type Calls = RefCell<Vec<Call, Global>>;
 
-/// A disk that notes each call that the disk within has answered by `Ok`. One for which there is no memory is left out.
+/// A disk that notes each call that the disk within has answered by `Ok`. A call for which there is no memory is left out.
 #[derive(Drop)]
 pub(crate) struct WatchedDisk<'a, D> {
     inner: D,

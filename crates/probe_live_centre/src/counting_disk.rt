@@ -1,7 +1,7 @@
 use sector_disk::{Disk, DiskError, Failing, FailingDisk, MemoryDisk};
 use std::alloc::Global;
 
-/// A disk that counts the writes and syncs that the disk within has done.
+/// A disk that passes each call on to a disk within. It counts the writes and syncs that succeed.
 #[derive(Drop)]
 pub struct CountingDisk<D: Disk> {
     inner: D,
@@ -12,7 +12,8 @@ pub struct CountingDisk<D: Disk> {
 /// A disk in memory that may fail a call, and counts its writes and syncs.
 pub type WatchedDisk = CountingDisk<FailingDisk<MemoryDisk<Global>>>;
 
-/// Such a disk over a disk in memory. It fails the call of this number, or all from it on; with 0 and `Once` it fails none.
+/// A `WatchedDisk` over this disk. With `Once` it fails the call numbered `call`, counted from 1; with `Always` also all later ones. With
+/// 0, `Once` fails none and `Always` fails all.
 pub fn watched(disk: MemoryDisk<Global>, call: u64, failing: Failing) -> WatchedDisk {
     CountingDisk::new(FailingDisk::new(disk, call, failing))
 }

@@ -16,7 +16,7 @@ pub struct LiveRegister<J: Centre> {
     publisher: Publisher<J>,
     register: Register<Global>,
     alloc: Global,
-    // A command was applied that the publisher does not have. From then on none is applied.
+    // A command was applied but not appended: it was not accepted, or memory ran out. From then on no command is applied.
     ahead: bool,
 }
 
@@ -32,7 +32,10 @@ impl<J: Centre> Model for LiveRegister<J> {
     ghost invariant = { λ l. l.ahead ≡ false → l.register ≡ after J.base l.publisher.appended };
 }
 
-/// A copy of this register that publishes what it accepts, and a viewer for each of 1 to 64 places.
+/// Makes a live register, which begins as a copy of this one, and its viewers: `places` of them, 1 to 64. `log` is the empty list
+/// that accepted commands are appended to.
+///
+/// Any other number of places is refused: by `NoPlace`, or by `NoMemory` if memory runs out first, for the copy of the register.
 pub fn make_live<J: Centre, R: Wait>(
     rt: &R,
     alloc: Global,
@@ -87,7 +90,7 @@ fn applied<J: Centre>(
     Some(appended(publisher, command))
 }
 
-// Appends a command that is accepted after all that was appended; whether it did.
+// Appends a command, which the register accepts after all that were appended. Returns whether it was appended.
 fn appended<J: Centre>(publisher: &mut Publisher<J>, command: Arc<Command<Global>, Global>) -> bool
     requires next { IsTrue (accepts (after J.base publisher.old.appended) (arc_value command)) }
     ensures { result ≡ true → publisher.new.appended ≡ publisher.old.appended ++ arc_value command ∷ [] }

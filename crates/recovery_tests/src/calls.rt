@@ -16,7 +16,7 @@ pub enum Call {
     Sync,
 }
 
-/// A disk that notes each call that the disk within has answered by `Ok`, the last one last. One for which there is no
+/// A disk that notes each call that the disk within has answered by `Ok`, the last one last. A call for which there is no
 /// memory is left out.
 #[derive(Drop)]
 pub struct NotingDisk {
@@ -32,7 +32,7 @@ impl NotingDisk {
         }
     }
 
-    /// Whether it got just these calls.
+    /// Whether the disk got just these calls.
     fn got(&self, calls: &[Call]) -> bool {
         self.calls.as_slice() == calls
     }

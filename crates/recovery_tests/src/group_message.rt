@@ -1,4 +1,4 @@
-//! A message to a group that a stop comes to while its gate is opened, with a checkpoint after it.
+//! A message to a group: a stop comes while the gate of its record is opened, and a checkpoint is made after the stop.
 
 use crate::made::{self, ATTACH, Given, OUTSIDER, RECEIVER, SENDER};
 use crate::runs::{is_pending, run, stop};

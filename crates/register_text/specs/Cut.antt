@@ -35,6 +35,6 @@ parts_of text = slice_split (λ b. b == 10) text
 unfoldable pub is_cut : List Byte → Bool
 is_cut text = are_cut None (parts_of text)
 
--- the text is cut in its last line, or right after its last line feed, before a line of this number
+-- The text is cut, and n is the number of the line after its last line feed. The text ends within that line or before it.
 abbrev pub IsCutAt : List Byte → ℕ → Type 0
 IsCutAt text n = (is_cut text ≡ true) × (n ≡ length (parts_of text))

@@ -31,12 +31,12 @@ HasNoFeed line = Lacks 10 line
 abbrev pub longest_line : ℕ
 longest_line = 4096
 
--- why a longer line can't be taken, by whether the first line was
+-- why a line longer than that can't be taken, by whether the first line was taken
 abbrev pub long_cause : Bool → Cause
 long_cause false = cause.Head
 long_cause true = cause.Spelling
 
--- goes on after line n, if it was taken
+-- what `more` makes of the loading after line n, or the fault of line n
 abbrev pub then_line : ℕ → Result TextLoading Cause → (TextLoading → Result State LoadFault) → Result State LoadFault
 then_line n (Err cause) more = Err (fault.Line n cause)
 then_line n (Ok t) more = more t
@@ -46,7 +46,7 @@ abbrev pub or_cut : ℕ → Option State → Result State LoadFault
 or_cut n None = Err (fault.Cut n)
 or_cut n (Some s) = Ok s
 
--- the first bytes of line n are no line: it is cut, unless it is too long
+-- the text ends within line n: it is cut there if the bytes of that line are not too long (`true`)
 abbrev pub cut_or_long : ℕ → TextLoading → Bool → Result State LoadFault
 cut_or_long n t true = Err (fault.Cut n)
 cut_or_long n t false = Err (fault.Line n (long_cause t.headed))
@@ -77,7 +77,7 @@ IsLoadFault made fault.Read = Unit {0}
 IsLoadFault made (fault.Line n cause) = made ≡ Err (fault.Line n cause)
 IsLoadFault made (fault.Cut n) = made ≡ Err (fault.Cut n)
 
--- a row can't come under other limits
+-- the fault is that the row of a line can't come there
 abbrev pub IsOfPlace : LoadFault → Type 0
 IsOfPlace fault.Memory = ⊥
 IsOfPlace fault.Read = ⊥
@@ -89,7 +89,7 @@ abbrev pub IsAll : Option (List Byte) → List Byte → Type 0
 IsAll None text = Unit {0}
 IsAll (Some left) text = left ≡ text
 
--- the bytes are those of the register, but for the numbers of the first line
+-- The bytes are those of the register, except that the first line may have other limits. A line `dump N` before it may state how many follow.
 pub record IsTextOf (text : List Byte) (t : State) : Type 0 where
   pub lines : List (List Byte)
   pub are : text ≡ ended lines

@@ -19,7 +19,7 @@ keyword (RadioRow itsi radio groups) = codes "radio"
 keyword (MailRow w) = codes "item"
 keyword (ServedRow station last) = codes "last"
 
--- whether a radio is present
+-- the word for whether a radio is present
 abbrev pub presence_word : Bool → List Byte
 presence_word true = codes "present"
 presence_word false = codes "absent"
@@ -28,7 +28,7 @@ presence_word false = codes "absent"
 abbrev pub group_words : Group → List (List Byte)
 group_words g = identity_text g.0 ∷ decimal g.1.0 ∷ decimal (lifetime_number g.1.1) ∷ []
 
--- the group of a copy; no word for an item that is no copy
+-- the word for the group of a copy; no word for an item that is no copy
 abbrev pub copied_words : Option Gtsi → List (List Byte)
 copied_words None = []
 copied_words (Some gtsi) = identity_text gtsi ∷ []

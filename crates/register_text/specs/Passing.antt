@@ -1,4 +1,4 @@
--- What passes between a text and its reader or writer. Which calls were made, only the calls themselves show.
+-- What passes between a text and its reader or writer. Only a call's own clauses show that the call was made.
 use Rattle.std.specs.Prelude.{◌≡◌, ◌≤◌, ◌⊎◌, ℕ, zero, suc, List, [], ◌++◌, length, take, Option, Some, None, Result, Ok, Err}
 use Rattle.identity.specs.Numbers.{Byte}
 use Rattle.centre_core.specs.State.{State}
@@ -7,7 +7,7 @@ use Rattle.register_text.specs.declared.dumping.DumpFault.TheVariants as dump
 use Rattle.register_text.specs.declared.load_fault.LoadFault.{LoadFault}
 use Rattle.register_text.specs.declared.load_fault.LoadFault.TheVariants as load
 
--- Passed is a relation between a reader or writer before a call, the bytes that the call passed, and the same after it
+-- Passed is a relation between a reader or writer before a call, the bytes that the call passed, and that reader or writer after it
 module _ {S : Type 0} (Passed : S → List Byte → S → Type 0) where
   -- so many calls in a row passed this text
   unfoldable pub HavePassed : ℕ → S → List Byte → S → Type 0
@@ -21,7 +21,8 @@ abbrev pub FitsPiece : Option ℕ → ℕ → Type 0
 FitsPiece None room = Unit {0}
 FitsPiece (Some n) room = n ≤ room
 
--- the reader was at its end; or the first n bytes of the buffer are what came next
+-- The reader had the bytes `input` left before the call, and `left` after it. It was at its end; or the first n bytes of the buffer
+-- are the first n of `input`.
 abbrev pub IsPiece : Option ℕ → List Byte → List Byte → Option (List Byte) → Type 0
 IsPiece None buffer input left = (input ≡ []) × (left ≡ Some [])
 IsPiece (Some n) buffer input left = (rest : List Byte) × (left ≡ Some rest) × (input ≡ take n buffer ++ rest)
@@ -57,8 +58,9 @@ module _ {S : Type 0} (Gave : S → List Byte → S → Type 0) where
   HasFailed Failed old new text =
       ((calls : ℕ) × (last : S) × HavePassed Gave calls old text last × Failed last new) ⊎ ((calls : ℕ) × HavePassed Gave calls old text new × (most_calls ≤ calls))
 
-  -- Why a text is not read, where made is what it makes. `Read` comes only if the reader failed or gave no end, and if no line of what it gave
-  -- is at fault. At `Memory` no line is at fault before the piece that it gave last. A fault of a line or of the end is in what it gave.
+  -- Why a text is not read. `made` is what a text makes. `Read` comes only if the reader failed or gave no end, and if no line of what
+  -- the reader gave is at fault. At `Memory` no line is at fault in what it gave before its last piece. A fault of a line is a fault of
+  -- what the reader gave, whatever bytes come next. At `Cut` the reader gave its end, and all that it gave is cut.
   abbrev pub IsUnread : (S → S → Type 0) → (S → S → Type 0) → (List Byte → Result State LoadFault) → S → S → LoadFault → Type 0
   IsUnread Ended Failed made old new load.Memory =
       (calls : ℕ) × (text : List Byte) × (piece : List Byte) × HavePassed Gave calls old (text ++ piece) new × (length piece ≤ most_given) × HasNoBadLine (made text)

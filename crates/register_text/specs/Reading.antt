@@ -74,7 +74,7 @@ abbrev pub one_group_in : List (List Byte) → Option Group
 one_group_in (gtsi ∷ class ∷ lifetime ∷ []) = group_in gtsi class lifetime
 one_group_in words = None
 
--- the groups, each of three words
+-- the groups, each of three words; one or two words at the end are no group, and are ignored here
 abbrev pub groups_in : List (List Byte) → Option (List Group)
 groups_in (gtsi ∷ class ∷ lifetime ∷ words) = group_in gtsi class lifetime >>= λ group. groups_in words >>= λ groups. Some (group ∷ groups)
 groups_in words = Some []

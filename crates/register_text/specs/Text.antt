@@ -26,18 +26,19 @@ head_text rules radios mail stations =
 abbrev pub head_line : Limits → List Byte
 head_line l = head_text l.rules l.radios l.mail l.stations
 
--- the first line with these numbers, if each has 4 bytes
+-- the first line with these four numbers, if all of them are there
 abbrev pub head_of : Option ℕ → Option ℕ → Option ℕ → Option ℕ → Option (List Byte)
 head_of (Some rules) (Some radios) (Some mail) (Some stations) = Some (head_text rules radios mail stations)
 head_of rules radios mail stations = None
 
--- rules N radios N items N stations N
+-- The first line with the numbers N of the words `rules N radios N items N stations N`, if each N has at most 32 bits. The names before
+-- the numbers are not compared here; `is_head` compares the whole line.
 abbrev pub limits_in : List (List Byte) → Option (List Byte)
 limits_in (a ∷ rules ∷ b ∷ radios ∷ c ∷ mail ∷ d ∷ stations ∷ []) =
     head_of (number_in most_4 rules) (number_in most_4 radios) (number_in most_4 mail) (number_in most_4 stations)
 limits_in words = None
 
--- the first line with the numbers that follow its first three words
+-- The first line as it is written for the numbers in these words. The first three words are the form and its version.
 abbrev pub head_in : List (List Byte) → Option (List Byte)
 head_in (a ∷ b ∷ c ∷ words) = limits_in words
 head_in words = None
@@ -53,11 +54,11 @@ is_head line = is_same line (head_in (words line))
 
 -- ---- the line before the first
 
--- the number of 64 bits after a word, if that is `dump` with its space
+-- the number that `number` spells, if `word` is `dump` with a space after it; it has at most 64 bits
 abbrev pub count_of : List Byte → List Byte → Option ℕ
 count_of word number = if bytes_eq word (codes "dump ") then number_in most_8 number else None
 
--- the number of lines that follow, if a line states it, as the answer to the listing `dump` begins
+-- The number of lines that follow, if this line is `dump N`. The answer to the listing `dump` begins with such a line.
 abbrev pub count_in : List Byte → Option ℕ
 count_in line = count_of (take 5 line) (drop 5 line)
 
@@ -66,11 +67,11 @@ abbrev pub count_after : Option ℕ → List Byte → Option ℕ
 count_after None line = count_in line
 count_after (Some n) line = None
 
--- how many lines a text has, by its row `count`: the first line, and one for each row
+-- how many lines a text with this header has: the first line, and one for each row; the header itself is the row `count`
 abbrev pub line_count : Header → ℕ
 line_count h = 1 + row_count h
 
--- whether a row agrees with the number of lines that was stated; only the header states it again
+-- Whether a row agrees with the number of lines that was stated. Only a header can disagree, because it states how many rows there are.
 abbrev pub agrees_with : ℕ → Row → Bool
 agrees_with n (HeaderRow h) = n == line_count h
 agrees_with n row = true
@@ -93,10 +94,13 @@ row_ended (Some row) = row_line row ++ codes "\n"
 
 -- ---- reading
 
--- the number of lines that was stated, until the header came; whether the first line was taken; and what the rows so far make
+-- what is loaded of a text so far
 pub record TextLoading : Type 0 where
+  -- the number of lines, if a line `dump N` stated it; none again once the header was taken
   pub stated : Option ℕ
+  -- whether the first line was taken
   pub headed : Bool
+  -- what the rows so far make
   pub rows : Loading
 
 -- no line is taken yet
@@ -126,7 +130,7 @@ or_place (Some l) = with_rows l
 abbrev pub stated_taken : Option ℕ → Loading → Row → Option Loading
 stated_taken stated l row = if is_as_stated stated row then row_taken l row else None
 
--- the outcome of a row's line, if it is one
+-- the outcome of a line after the first, by the row that the line spells
 abbrev pub or_spelling : Option ℕ → Loading → Option Row → Result TextLoading Cause
 or_spelling stated l None = Err cause.Spelling
 or_spelling stated l (Some row) = or_place (stated_taken stated l row)
@@ -150,7 +154,7 @@ abbrev pub lines_taken : TextLoading → List (List Byte) → Result TextLoading
 lines_taken t [] = Ok t
 lines_taken t (line ∷ lines) = then_lines (line_taken t line) (λ u. lines_taken u lines)
 
--- the state, once all its rows were taken
+-- the state without the epoch of its header
 abbrev pub state_of : Option (ℕ × State) → Option State
 state_of None = None
 state_of (Some x) = Some x.1
@@ -181,7 +185,7 @@ pub record IsUnder (limits : Limits) (rows : List Row) (t : State) : Type 0 wher
 abbrev pub MayState : ℕ → List (List Byte) → Type 0
 MayState n lines = (lines ≡ []) ⊎ (lines ≡ (codes "dump " ++ decimal n) ∷ [])
 
--- these lines are those of the register, but for the numbers of the first one. Before it one may state how many follow
+-- These are the lines of the register, except that the first one may have other limits. A line `dump N` before it may state how many follow.
 pub record AreLinesOf (lines : List (List Byte)) (t : State) : Type 0 where
   pub counts : List (List Byte)
   pub first : List Byte

@@ -49,7 +49,7 @@ fn write_out<W: TextSink, A: Allocator>(out: &mut W, text: &mut Vec<u8, A>) -> R
     Ok(())
 }
 
-// Writes the text once it is long enough.
+// Writes the text, and empties it, if it has at least `PIECE` bytes.
 #[tactic(auto, using(crate::proofs::Written::same, crate::proofs::Written::passed, crate::proofs::Passing::not_called, crate::proofs::Passing::out_taken))]
 fn pass_on<W: TextSink, A: Allocator>(out: &mut W, text: &mut Vec<u8, A>) -> Result<(), DumpFault>
     ensures known { OnOk result (Keeps (append_known (W.contents out.old) text.old.items) (append_known (W.contents out.new) text.new.items)) }
@@ -62,7 +62,7 @@ fn pass_on<W: TextSink, A: Allocator>(out: &mut W, text: &mut Vec<u8, A>) -> Res
     write_out(out, text)
 }
 
-// Writes the lines of all rows, and leaves the last of them in the text.
+// Appends the lines of all rows to the text, which is written whenever it is long enough. The last lines may still be in it.
 fn write_rows<A: Allocator + Clone, B: Allocator + Clone, W: TextSink>(
     alloc: &B,
     out: &mut W,
@@ -91,10 +91,10 @@ fn write_rows<A: Allocator + Clone, B: Allocator + Clone, W: TextSink>(
     Ok(())
 }
 
-/// Writes the whole text of a register, and has it passed on. Beside some lines of it, only a copy of a PDU needs memory.
+/// Writes the whole text of a register, and flushes the writer. Only a buffer of some lines and a copy of a PDU need memory.
 ///
 /// # Errors
-/// `Write` only if the writer failed, and `Memory` only if it did not. After a fault a prefix of the text is written.
+/// `Write` only if the writer failed, and `Memory` only if the writer did not fail. After a fault a prefix of the text is written.
 pub fn write_register<A: Allocator + Clone, B: Allocator + Clone, W: TextSink>(
     alloc: &B,
     out: &mut W,

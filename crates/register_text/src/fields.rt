@@ -1,4 +1,4 @@
-//! The words of a line, read as a row and written as its sector. Whoever reads the sector checks the PDU of an item.
+//! The words of a line, read as a row and written as its sector. The PDU of an item is checked when the sector is read.
 ghost use Rattle.std.specs.Prelude.{◌≡◌, ◌≤◌, ◌*◌, IfOk, IfSome, length, map, option_map};
 ghost use Rattle.centre_core.specs.Ranges.{IsShort};
 ghost use Rattle.group_attach.specs.Applied.{most_of_radio};
@@ -366,7 +366,7 @@ fn fields_in<A: Allocator>(
     }
 }
 
-/// The sector of the row that the words give, not yet checked. A PDU needs memory, and a list of groups.
+/// The sector of the row that the words give, not yet checked. Only a PDU and a list of groups need memory.
 pub(crate) fn sector_in<A: Allocator>(
     alloc: A,
     words: &[&[u8]],

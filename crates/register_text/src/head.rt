@@ -38,7 +38,7 @@ fn put_head<A: Allocator>(out: &mut Vec<u8, A>, numbers: &Numbers) -> Result<(),
     put_parts(out, &line)
 }
 
-/// Appends the first line of the text of a register with these limits, without its line feed. If it is out of memory,
+/// Appends the first line of the text of a register with these limits, without its line feed. If memory runs out,
 /// `out` is as before.
 pub fn print_head<A: Allocator>(out: &mut Vec<u8, A>, limits: &Limits) -> Result<(), AllocError>
     ensures ok { OnOk result (out.new.items ≡ out.old.items ++ head_line limits.now) }

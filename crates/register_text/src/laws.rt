@@ -25,8 +25,9 @@ pub fn row_lines()
     ensures only { (line : List ℕ) (row : Row) → line_row line ≡ Some row → Spells line row }
 {}
 
-/// The lines of a register make what its rows make. Under its own limits that is the register itself, and under others a
-/// register with the same rows, or none. No other lines make a register, but for the numbers of the first line.
+/// The lines of a register make what its rows make. Under its own limits that is the register itself. Under other limits it is a
+/// register with the same rows, or none. Only such lines make a register. The numbers of the first line may differ, and a line
+/// `dump N` may come before it.
 pub fn register_lines()
     ensures made { (limits : Limits) (s : State) → IsState s → StateInRange s
         → state_in limits (register_lines s) ≡ state_of (state_of_rows limits (rows_of 1 s)) }
@@ -36,8 +37,9 @@ pub fn register_lines()
     ensures only { (limits : Limits) (lines : List (List ℕ)) (t : State) → state_in limits lines ≡ Some t → AreLinesOf lines t }
 {}
 
-/// The bytes of a register are read as what its rows make. Under its own limits that is the register itself, and under others a
-/// register with the same rows, or none, and then a row is at fault for its place. Only the bytes of a register are read as one, but for the numbers of the first line.
+/// The bytes of a register are read as what its rows make. Under its own limits that is the register itself. Under other limits it is
+/// a register with the same rows, or none, and then a row is at fault for its place. Only such bytes are read as a register. The
+/// numbers of the first line may differ, and a line `dump N` may come before it.
 pub fn register_bytes()
     ensures made { (limits : Limits) (s : State) → IsState s → StateInRange s
         → result_ok (text_read limits (register_bytes s)) ≡ state_of (state_of_rows limits (rows_of 1 s)) }
@@ -51,14 +53,15 @@ pub fn register_bytes()
 {}
 
 /// A text is refused as cut only where it is cut, whatever the limits. So a text that is read as a register under some limits is
-/// refused as cut under none.
+/// never refused as cut under others.
 pub fn cut_texts()
     ensures only { (limits : Limits) (text : List ℕ) (n : ℕ) → text_read limits text ≡ Err (Cut n) → IsCutAt text n }
     ensures whole { (limits : Limits) (text : List ℕ) (t : State) → text_read limits text ≡ Ok t → is_cut text ≡ false }
 {}
 
-/// The listing `dump` is the number of a register's lines, and after it the bytes of the register. As it is, it is read as
-/// that register under its own limits, and under others as a register with the same rows, or as none, and then a row is at fault for its place.
+/// The listing `dump` is a line with the number of a register's lines, and after it the bytes of the register. Under the register's
+/// own limits this text is read as that register. Under other limits it is read as a register with the same rows, or as none, and
+/// then a row is at fault for its place.
 pub fn dumps()
     ensures again { (s : State) → IsState s → StateInRange s → text_read s.registered.limits (listing_text s Dump) ≡ Ok s }
     ensures under { (limits : Limits) (s t : State) → IsState s → StateInRange s → text_read limits (listing_text s Dump) ≡ Ok t

@@ -6,11 +6,11 @@ use crate::cause::Cause;
 pub enum LoadFault {
     /// Out of memory.
     Memory,
-    /// The reader failed, or gave no end within the calls that it had.
+    /// The reader failed, or gave no end in 4,294,967,295 calls.
     Read,
     /// The line of this number can't be taken.
     Line(u64, Cause),
     /// The text is cut: it ends before the line feed of this line, or lines are missing from this one on. All lines before it were taken. No text
-    /// of a whole register is refused so, whatever the limits ([`cut_texts`](crate::laws::cut_texts)).
+    /// of a whole register is refused as cut, whatever the limits ([`cut_texts`](crate::laws::cut_texts)).
     Cut(u64),
 }

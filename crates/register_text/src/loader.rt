@@ -30,7 +30,7 @@ pub enum TakeFault {
 #[derive(Drop)]
 pub struct TextLoader<A: Allocator> {
     alloc: A,
-    /// How many lines follow, if the line before the first stated it, until the header came.
+    /// How many lines follow, if a line `dump N` stated it. `None` again once the header was taken.
     stated: Option<u64>,
     is_headed: bool,
     loader: Loader<A>,
@@ -78,7 +78,7 @@ fn row_agrees(stated: u64, row: &ReadRow<'_>) -> bool
     }
 }
 
-// Whether the row of a sector does.
+// Whether the row of a sector agrees with the number of lines that was stated.
 fn agrees_with(stated: u64, sector: &[u8; 512]) -> bool
     ensures { IfSome (row_in sector.now) (λ row. result ≡ agrees_with stated row) }
 {
@@ -97,7 +97,7 @@ fn is_as_stated(stated: Option<u64>, sector: &[u8; 512]) -> bool
     }
 }
 
-// Takes the row of a sector, if it agrees with what was stated, and returns whether it did.
+// Takes the row of a sector, if it agrees with what was stated and may come next. Returns whether it was taken.
 #[tactic(auto, using(crate::proofs::Taking::stated_made, crate::proofs::Taking::stated_refused, crate::proofs::Taking::stated_unlike))]
 fn take_stated<A: Allocator + Clone>(
     stated: Option<u64>,
@@ -155,7 +155,7 @@ impl<A: Allocator + Clone> TextLoader<A> {
         })
     }
 
-    /// Takes the next line. Before the first one may come a line `dump N`; the header then has to be that of a text of N lines. A fault
+    /// Takes the next line. A line `dump N` may come before the first line; the header must then be that of a text of N lines. A fault
     /// leaves the loader unchanged. So after `Memory` the same line may be tried again.
     #[tactic(auto, unfolding(crate::specs::Text::line_taken))]
     pub fn take(&mut self, line: &[u8]) -> Result<(), TakeFault>

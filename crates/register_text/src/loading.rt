@@ -14,7 +14,7 @@ use memchr::memchr;
 use registration::Limits;
 use std::alloc::{AllocError, Allocator};
 
-/// The most bytes of a line, without its line feed.
+/// The most bytes of a line that can be taken, without its line feed.
 const LONGEST: usize = 4096;
 
 /// The most bytes that one call of the reader gives.
@@ -171,13 +171,13 @@ impl<A: Allocator + Clone> Reading<A> {
     }
 }
 
-/// Reads the text of a register to its end, and makes the register of it under these limits. Beside the register it keeps
-/// one line, of at most 4,096 bytes: a longer one is never kept whole, and can't be taken.
+/// Reads the text of a register to its end, and makes the register of it under these limits. Between two pieces of the
+/// text it keeps at most 4,096 bytes of a line. A line of more bytes can't be taken.
 ///
 /// # Errors
 /// `Line` and `Cut` for the first fault of the text. `Read` only if the reader failed, or gave no end in 4,294,967,295 calls, and no line
-/// of what it gave is at fault. `Memory` only before its end, and if no line is at fault before the piece of at most 65,536 bytes that
-/// it gave last.
+/// of what it gave is at fault. `Memory` only before the reader's end, and only if no line is at fault in what it gave before its last
+/// piece, of at most 65,536 bytes.
 pub fn read_register<A: Allocator + Clone, R: TextSource>(
     alloc: A,
     limits: Limits,

@@ -288,7 +288,7 @@ fn put_row<A: Allocator, B: Allocator + Clone>(
     }
 }
 
-/// Appends the line of a row, without its line feed. A copy of a PDU is made in `alloc`. If it is out of memory, `out` is
+/// Appends the line of a row, without its line feed. A copy of a PDU is made in `alloc`. If memory runs out, `out` is
 /// as before.
 pub fn print_row<A: Allocator, B: Allocator + Clone>(
     out: &mut Vec<u8, A>,

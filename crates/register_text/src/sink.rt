@@ -7,8 +7,8 @@ use std::io::Write;
 
 /// A writer of a register's text.
 ///
-/// Three relations say what its calls did. Only the calls themselves show that one holds. So a clause that states one speaks of
-/// what the writer did. Any `Write` is an instance, of which nothing more is known.
+/// Three relations state what its calls did. Only a call's own clauses show that a relation holds. So a clause that states one is
+/// about calls that the writer got. Any `Write` is an instance, whose relations always hold and so state nothing.
 pub trait TextSink: Write {
     // A call took all of these bytes.
     ghost took: { Self → List ℕ → Self → Type 0 };

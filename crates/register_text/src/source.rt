@@ -7,8 +7,8 @@ use std::io::{ErrorKind, Read};
 
 /// A reader of a register's text.
 ///
-/// Three relations say what its calls did. Only the calls themselves show that one holds. So a clause that states one speaks of
-/// what the reader did. Any `Read` is an instance, of which nothing more is known.
+/// Three relations state what its calls did. Only a call's own clauses show that a relation holds. So a clause that states one is
+/// about calls that the reader got. Any `Read` is an instance, whose relations always hold and so state nothing.
 pub trait TextSource: Read {
     // A call gave these bytes, none if it was interrupted.
     ghost gave: { Self → List ℕ → Self → Type 0 };

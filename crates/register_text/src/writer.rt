@@ -29,8 +29,8 @@ fn put_line<A: Allocator, B: Allocator + Clone>(
     put_whole(out, before, put)
 }
 
-/// Appends the line of the register's first row after a place, or of the first of all, with its line feed. It returns that
-/// row's place. After the last row it appends nothing and returns `None`. If it is out of memory, `out` is as before.
+/// Appends the line of the register's first row after the place `after`, or of its first row for `None`, with its line feed. It
+/// returns that row's place. After the last row it appends nothing and returns `None`. If memory runs out, `out` is as before.
 pub fn line_after<A: Allocator, B: Allocator + Clone, C: Allocator + Clone>(
     out: &mut Vec<u8, A>,
     alloc: &B,

@@ -1,4 +1,4 @@
--- The calls that the program makes on a disk: on one that it is given, and on the one in a file.
+-- The calls that the program has made on a disk: on one that it was given, or on the one in a file.
 use Rattle.std.specs.Prelude.{◌≡◌, ◌⊎◌, false, IfSome, List, [], ◌∷◌, ◌++◌, None}
 use Rattle.sector_disk.specs.Disk.{View}
 use Rattle.sector_disk.specs.Numbers.{Byte, Sectors}
@@ -20,7 +20,8 @@ use Rattle.served_disk.specs.Making.{IsOfTaking}
 abbrev pub WasRead : View → View → Type 0
 WasRead old new = before_reads new.calls ≡ old.calls ++ Sync ∷ []
 
--- A disk was read, or a call that was to read it was refused before that. Then it has had no call, and Fails is so: the sync failed.
+-- A disk was read, or a call that was to read it was refused before its first read. In the second case Fails holds, which says that the sync failed,
+-- and no call was added.
 abbrev pub WasReadAtMost : Type 0 → View → View → Type 0
 WasReadAtMost Fails old new = WasRead old new ⊎ (Fails × (new.calls ≡ old.calls))
 
@@ -28,12 +29,12 @@ WasReadAtMost Fails old new = WasRead old new ⊎ (Fails × (new.calls ≡ old.c
 abbrev pub IsOnlyRead : List Call → Type 0
 IsOnlyRead calls = before_reads calls ≡ Sync ∷ []
 
--- all calls of a disk that was opened, and of which this fault is reported: it was only read, or the sync failed and there was no call
+-- all calls of a disk that was opened, where this fault is reported: one sync and after it only reads; or none, and the fault is `Device`
 abbrev pub IsReadAtMost : Fault → List Call → Type 0
 IsReadAtMost fault calls = IsOnlyRead calls ⊎ ((fault ≡ Device) × (calls ≡ []))
 
--- A call that only reads the disk in the file of this name was refused, for a reason that it may have. If the disk comes back, it was read at
--- most. If none does, the file was not taken as a disk.
+-- A call that only reads the disk in the file of this name was refused. May says which faults the call may report. If the disk comes back, it has
+-- been at most read (`IsReadAtMost`). If no disk comes back, the file was not taken as a disk.
 pub record IsReadRefused {F : Type 0} (May : List Byte → Fault → Type 0) (name : List Byte) (e : Refused F) : Type 0 where
   pub kinds : May name e.fault
   pub some_calls : IfSome e.disk (λ disk. IsReadAtMost e.fault (calls_of disk))
@@ -41,7 +42,7 @@ pub record IsReadRefused {F : Type 0} (May : List Byte → Fault → Type 0) (na
 
 -- ---- making
 
--- a disk in a new file: zeros were written into each of so many sectors, then they were synced, and nothing has failed
+-- a disk in a new file: zeros were written into each of this many sectors, then they were synced, and no call has failed
 pub record IsBlankOf {F : Type 0} (sectors : Sectors) (disk : FileDisk F) : Type 0 where
   pub count : disk.sectors ≡ sectors
   pub calls : calls_of disk ≡ blank_calls sectors
@@ -52,7 +53,7 @@ pub record IsBlankOf {F : Type 0} (sectors : Sectors) (disk : FileDisk F) : Type
 abbrev pub making_calls : Layout → List Call → List Call
 making_calls layout calls = blank_calls (disk_size layout) ++ calls
 
--- a prefix of these calls
+-- the second list of calls is a prefix of the first
 abbrev pub IsPartlyMade : List Call → List Call → Type 0
 IsPartlyMade all calls = (left : List Call) × (all ≡ calls ++ left)
 

@@ -1,4 +1,5 @@
--- What `check` prints of a disk: a line for each side, or for each damaged sector of it and for what it loses, and one for the whole.
+-- What `check` prints of a disk. A side that is whole or unused has one line. A damaged side has a line for each damaged sector, and one for what
+-- the side loses. The last line is for the whole disk.
 use Rattle.std.specs.Prelude.{◌≡◌, ◌||◌, Bool, true, false, not, List, ◌++◌, Ok, Err, codes, decimal}
 use Rattle.std.specs.List.{flat_map}
 use Rattle.sector_disk.specs.Disk.{View}
@@ -53,7 +54,7 @@ reason_end reason = codes ", " ++ reason_text reason ++ codes "\n"
 unfoldable pub damage_line : Side → Damage → List Byte
 damage_line side damage = sector_text side damage.sector ++ kind_text damage.kind ++ reason_end damage.reason
 
--- the line of a side, or of each of its damaged sectors and of what it loses
+-- the line of an unused or whole side; of a damaged side, a line for each damaged sector and one for what the side loses
 abbrev pub side_lines : Side → SideState → List Damage → List Byte
 side_lines side state.Unused damaged = codes "side " ++ side_text side ++ codes " unused\n"
 side_lines side (state.Whole figures) damaged = whole_line side figures
@@ -63,7 +64,7 @@ side_lines side (state.Damaged epoch at) damaged = flat_map (damage_line side) d
 abbrev pub has_damage : Checked → Bool
 has_damage checked = is_damaged checked.a || is_damaged checked.b
 
--- the word for a disk that opens. If its other side is damaged, nothing is lost: the next checkpoint writes that side anew.
+-- the word for a disk that opens, by whether a side is damaged. If one is, nothing is lost: the next checkpoint writes that side anew.
 abbrev pub opening_word : Bool → List Byte
 opening_word true = codes "kept"
 opening_word false = codes "ok"
@@ -83,14 +84,16 @@ abbrev pub checked_text : Checked → List Damage → List Damage → List Byte
 checked_text checked a b =
     side_lines side.A checked.a a ++ side_lines side.B checked.b b ++ last_line (has_damage checked) (opened_by checked.a checked.b)
 
--- The lines of what a check found, and whether it is well. The damage of each side begins with the sector of its state.
+-- The lines of what a check found, and whether the disk is well. `a` and `b` are the damaged sectors of the sides. Those of a damaged side begin
+-- with the sector that its state names.
 pub record IsReported (checked : Checked) (a b : List Damage) (out : List Byte) (well : Bool) : Type 0 where
   pub begins_a : IsOfState checked.a a
   pub begins_b : IsOfState checked.b b
   pub written : out ≡ checked_text checked a b
   pub judged : well ≡ is_well (has_damage checked) (opened_by checked.a checked.b)
 
--- The lines of what a check found, and whether it is well, with damage that was looked for. If the disk is honest, that is the damage of its image.
+-- The lines of what a check found, and whether the disk is well. After the check each side was read again for its damaged sectors, `a` and `b`. If
+-- the disk is honest, these are the damaged sectors of its image.
 pub record IsReportedOn (A : Type 0) (checked : Checked) (out : List Byte) (well : Bool) (disk : View) : Type 0 where
   pub a : List Damage
   pub b : List Damage
@@ -98,7 +101,7 @@ pub record IsReportedOn (A : Type 0) (checked : Checked) (out : List Byte) (well
   pub damage_b : disk.honest → b ≡ damage_in A checked.layout side.B disk.reads checked.b
   pub reported : IsReported checked a b out well
 
--- The lines of a check, and whether the disk is well. If the disk is honest, a check of its image finds what they say.
+-- The lines of a check, and whether the disk is well. If the disk is honest, a check of its image finds `checked`, which the lines report.
 pub record IsReportedBy (A : Type 0) (out : List Byte) (well : Bool) (disk : View) : Type 0 where
   pub checked : Checked
   pub found : disk.honest → checked_in A disk.reads ≡ Ok checked

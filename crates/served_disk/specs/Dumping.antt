@@ -18,23 +18,23 @@ use Rattle.served_disk.specs.Faults.{IsOfDump, Names}
 use Rattle.served_disk.specs.Making.{IsOfOpening}
 use Rattle.served_disk.specs.Refusals.{IsUnopened}
 
--- the text of this register was written once, after what was there
+-- the text of this register was written once, after what the writer held. Given is what is known of the writer's contents before and after
 pub record IsDumped (before after : Option (List Byte)) (s : State) : Type 0 where
   pub state : IsState s
   pub ranges : StateInRange s
   pub written : Appends before after (register_bytes s)
 
--- Of a writer, given are what is known of its contents, and the relations between it before and after it takes bytes and is flushed.
+-- Of a writer, `contents` is what is known of its contents. `took` and `flushed` relate the writer before and after it takes bytes or is flushed.
 module _ (A : Type 0) {W : Type 0} (contents : W → Option (List Byte)) (took : W → List Byte → W → Type 0) (flushed : W → W → Type 0) (before after : W) where
-  -- The text of a register was written, as the contents of the writer say where they are known, and as its calls say. If the disk is honest,
-  -- the register is the one that the disk's image opens to.
+  -- The text of a register was written. The contents of the writer say so where they are known, and its calls say so. If the disk is honest, the
+  -- register is the one that the disk's image opens to.
   pub record IsDumpedBy (disk : View) : Type 0 where
     pub register : State
     pub kept : disk.honest → OpensTo A register disk.reads
     pub dumped : IsDumped (contents before) (contents after) register
     pub written : IsWritten took flushed (register_bytes register) before after
 
--- Of a writer, given are the relations between it before and after it takes bytes and fails.
+-- Of a writer, `took` and `failed` relate the writer before and after it takes bytes or fails.
 module _ (A : Type 0) {W : Type 0} (took : W → List Byte → W → Type 0) (failed : W → W → Type 0) (before after : W) where
   -- The text of a register was not written, for this reason. If the disk is honest, the register is the one that the disk's image opens to.
   pub record IsUnwrittenBy (disk : View) (fault : DumpFault) : Type 0 where
@@ -42,16 +42,16 @@ module _ (A : Type 0) {W : Type 0} (took : W → List Byte → W → Type 0) (fa
     pub kept : disk.honest → OpensTo A register disk.reads
     pub unwritten : IsUnwritten took failed (register_bytes register) before after fault
 
-  -- the disk was not opened, for this reason, and nothing was written; or the text of its register was not written, for this one
+  -- the disk was not opened, for this reason, and nothing was written; or the disk was opened, and its register's text was not written, for this reason
   abbrev pub IsUndumped : View → View → DiskDumpFault → Type 0
   IsUndumped old new (dump.Opening fault) = IsUnopened A old new fault × (after ≡ before)
   IsUndumped old new (dump.Writing fault) = IsUnwrittenBy old fault
 
--- the fault that is reported for one for which a dump was refused, between these views of its disk
+-- the fault that is reported where a dump was refused. Why says for which reason, by the views of the disk before and after
 abbrev pub ReportsDump : (View → View → DiskDumpFault → Type 0) → View → View → Fault → Type 0
 ReportsDump Why old new fault = (reason : DiskDumpFault) × Why old new reason × IsOfDump reason fault
 
--- a fault of opening is one that an opening may have
+-- the faults that a dump may have: any fault of writing, and those that opening the disk may have
 abbrev pub IsOfDumping : DiskDumpFault → Type 0
 IsOfDumping (dump.Opening fault) = IsOfStoreOpening fault
 IsOfDumping (dump.Writing fault) = Unit {0}

@@ -23,7 +23,7 @@ use Rattle.served_disk.specs.declared.fault.Fault.{Fault}
 use Rattle.served_disk.specs.declared.port_names.PortNames.{PortNames}
 use Rattle.served_disk.specs.declared.fault.Fault.TheVariants as fault
 
--- the line of why a file was not opened; none where the cause is another one
+-- the line for the cause of a file's fault; for `Other` there is none
 abbrev pub open_cause_text : OpenCause → List Byte
 open_cause_text why.Held = codes "cause: held by another process\n"
 open_cause_text why.Exists = codes "cause: exists\n"
@@ -47,7 +47,7 @@ dump_line_number_text line = codes "fault: dump line " ++ decimal line ++ codes 
 abbrev pub dump_line_text : ℕ → List Byte → List Byte
 dump_line_text line what = dump_line_number_text line ++ (what ++ codes "\n")
 
--- the line of a file
+-- the line of a fault of the file of this name
 abbrev pub named_text : List Byte → List Byte
 named_text name = codes "fault: file " ++ name ++ codes "\n"
 

@@ -29,7 +29,8 @@ IsOfNames names other = ⊥
 abbrev pub IsNotRead : ErrorKind → List Byte → Fault → Type 0
 IsNotRead kind name is = MatchBool (is_memory kind) (is ≡ fault.Memory) (Names is name (open_cause kind))
 
--- Why the first of these files that was not opened was not. Given is what opening the file of a name answers.
+-- The fault that is reported for the first of these files that could not be opened. `opened` says what opening the file of a name answers. The files
+-- that are named before it were opened.
 pub record IsFirstUnopened (opened : List Byte → Result File Error → Type 0) (names : List (Bor (List Byte))) (is : Fault) : Type 0 where
   pub place : Place
   pub name : Bor (List Byte)
@@ -43,17 +44,17 @@ pub record IsFirstUnopened (opened : List Byte → Result File Error → Type 0)
 abbrev pub IsOfFiles : (List Byte → Result File Error → Type 0) → List (Bor (List Byte)) → Fault → Type 0
 IsOfFiles opened names is = (is ≡ fault.Memory) ⊎ IsFirstUnopened opened names is
 
--- the first station that is named for orders and has no place among so many that are served
+-- the first station named for orders whose number is larger than the number of stations that are served
 abbrev pub not_served : ℕ → List ℕ → Option ℕ
 not_served served named = find (λ station. nat_lt served station) named
 
 -- ---- pairs of IN and OUT
 
--- the word leaves a station out
+-- the name is `-`
 abbrev pub is_dash : List Byte → Bool
 is_dash name = bytes_eq name (codes "-")
 
--- the station of this IN and OUT is left out
+-- the station of this IN and OUT is left out: both are `-`
 abbrev pub is_left_out : List Byte → List Byte → Bool
 is_left_out input output = is_dash input && is_dash output
 
@@ -61,11 +62,11 @@ is_left_out input output = is_dash input && is_dash output
 abbrev pub known_of : List Byte → List Byte → Option (List Byte)
 known_of input output = if is_left_out input output then Some [] else None
 
--- only one of this IN and OUT is left out
+-- only one of this IN and OUT is `-`
 abbrev pub is_half_left_out : List Byte → List Byte → Bool
 is_half_left_out input output = (is_dash input || is_dash output) && not (is_left_out input output)
 
--- of some station only one of IN and OUT is left out
+-- some station has `-` for only one of IN and OUT
 abbrev pub has_half : List (Bor (List Byte) × Bor (List Byte)) → Bool
 has_half named = list_any (λ (pair : Bor (List Byte) × Bor (List Byte)). is_half_left_out pair.0.now pair.1.now) named
 

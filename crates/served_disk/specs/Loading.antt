@@ -1,4 +1,4 @@
--- Why no register is loaded from a dump.
+-- Which register is loaded from a dump, and why none is.
 use Rattle.std.specs.Prelude.{◌≡◌, List, Option, Some, Result, Ok, Err}
 use Rattle.file_disk.specs.declared.fault.OpenCause.TheVariants.{Other}
 use Rattle.registration.specs.declared.limits.Limits.{Limits}
@@ -18,11 +18,11 @@ pub record IsDumpOf (s : State) (given : Option (List Byte)) : Type 0 where
   pub ranges : StateInRange s
   pub text : given ≡ Some (register_bytes s)
 
--- the register is the one that is read, under these limits, in a text of which this holds
+-- the register is the one that is read, under these limits, from a text for which P holds
 abbrev pub IsReadIn : (List Byte → Type 0) → Limits → State → Type 0
 IsReadIn P limits register = (text : List Byte) × P text × (text_read limits text ≡ Ok register)
 
--- why no register is loaded from the file of this name: a line of the dump or its end, the file was not read, or no memory
+-- why no register is loaded from the file of this name: a line can't be taken, the dump is cut, the file was not read, or memory ran out
 abbrev pub IsOfLoading : List Byte → Fault → Type 0
 IsOfLoading name (fault.DumpLine line cause) = Unit {0}
 IsOfLoading name (fault.DumpCut line) = Unit {0}
@@ -30,12 +30,13 @@ IsOfLoading name (fault.File text cause) = (text.now ≡ name) × (cause ≡ Oth
 IsOfLoading name fault.Memory = Unit {0}
 IsOfLoading name other = ⊥
 
--- A fault of a line or of the end is what the dump is read as. The others state nothing of the dump.
+-- `made` is what the dump's text is read as. If the fault is that of a line or of a cut dump, `made` is that fault. Other faults state nothing of the
+-- text.
 abbrev pub IsReadAs : Result State LoadFault → Fault → Type 0
 IsReadAs made (fault.DumpLine line cause) = made ≡ Err (load.Line line cause)
 IsReadAs made (fault.DumpCut line) = made ≡ Err (load.Cut line)
 IsReadAs made other = Unit {0}
 
--- the fault that is reported for one of which this holds, of reading the file of this name
+-- the fault that is reported for a fault of reading the file of this name for which P holds
 abbrev pub ReportsLoad : (LoadFault → Type 0) → List Byte → Fault → Type 0
 ReportsLoad P name fault = (reason : LoadFault) × P reason × IsOfLoad reason name fault

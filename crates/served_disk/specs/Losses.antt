@@ -31,7 +31,7 @@ is_of_records _ = false
 abbrev pub rows_in : Kind → List Damage → ℕ
 rows_in row damaged = length (filter (λ it. is_row_of row it.kind) damaged)
 
--- the first damaged sector of the records: from there on nothing can be read
+-- the first damaged sector that is to hold a record or a gate: from there on records are lost
 abbrev pub records_from : List Damage → Option Sector
 records_from damaged = option_map (λ it. it.sector) (find (λ it. is_of_records it.kind) damaged)
 
@@ -39,12 +39,12 @@ records_from damaged = option_map (λ it. it.sector) (find (λ it. is_of_records
 abbrev pub loses_all : List Damage → Bool
 loses_all damaged = list_any (λ it. is_header it.kind) damaged
 
--- the entries of the damaged rows
+-- how many entries of each kind are lost with the damaged rows
 unfoldable pub rows_text : List Damage → List Byte
 rows_text damaged = codes " loses rules " ++ decimal (rows_in kind.Rule damaged) ++ codes " radios " ++ decimal (rows_in kind.Radio damaged)
     ++ codes " items " ++ decimal (rows_in kind.Item damaged) ++ codes " stations " ++ decimal (rows_in kind.Station damaged)
 
--- the records, by the first that is lost
+-- from which sector on records are lost, or that none are
 abbrev pub records_text : Option Sector → List Byte
 records_text None = codes " records none\n"
 records_text (Some at) = codes " records from " ++ decimal at ++ codes "\n"

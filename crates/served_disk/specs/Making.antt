@@ -33,14 +33,16 @@ pub record IsFor (settings : Settings) (layout : Layout) : Type 0 where
 abbrev pub AsksFor : List Byte → Layout → Type 0
 AsksFor text layout = (settings : Settings) × Holds text settings × IsFor settings layout
 
--- why the text asks for no disk: it holds no settings; a number of these is out of range; or memory ran out
+-- Why the text asks for no disk: it holds no settings, a number of these is out of range, or memory ran out. Memory runs out only for a text in
+-- UTF-8 that is not blank.
 abbrev pub AsksForNone : List Byte → Fault → Type 0
 AsksForNone text fault.Settings = (settings : Settings) → ¬ Holds text settings
 AsksForNone text fault.BadGeometry = (settings : Settings) × Holds text settings × ¬ AreInRange settings
 AsksForNone text fault.Memory = IsUtf8 text × ¬ IsBlank text
 AsksForNone text other = ⊥
 
--- An honest disk, which after a stop at any moment too opens to this register, of epoch 1 and on side A.
+-- An honest disk that opens to this register, also after a stop at any moment. It opens on side A, with epoch 1, and the first closed
+-- gate is the one at the start of that side's half.
 pub record IsMadeFor (A : Type 0) (layout : Layout) (register : State) (disk : View) : Type 0 where
   pub honest : disk.honest
   pub opens_to : InEach disk (λ image. opens A image ≡ Ok (opening layout side.A 1 (half_at layout side.A) register))

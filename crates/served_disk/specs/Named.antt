@@ -21,7 +21,7 @@ use Rattle.served_disk.specs.Synced.{HasOpenedSynced}
 
 -- ---- either
 
--- Of the file of this name, given is what opening or making it may answer, and Begins is what then holds of its disk.
+-- `given` is what opening or making the file may answer. Begins is what then holds of the file's disk, before any further call.
 module _ {F : Type 0} (given : Result (FileDisk F) FileFault → Type 0) (Begins : FileDisk F → Type 0) where
   -- the file gave a disk, and P holds of it
   pub record OnDisk (P : FileDisk F → Type 0) : Type 0 where
@@ -71,13 +71,14 @@ module _ {F : Type 0} (view : F → View) (adopted : List Byte → Result (FileD
 
 -- ---- a new file
 
--- no file of this name was made of so many sectors, for this reason, and no disk comes back
+-- no file of this name was made with this many sectors, for a reason that is reported, and no disk comes back
 abbrev pub IsNotMade : {F : Type 0} → (List Byte → Sectors → Result (FileDisk F) FileFault → Type 0) → List Byte → Sectors → Refused F → Type 0
 IsNotMade created name sectors e = IsNoDisk (created name sectors) (IsBlankOf sectors) name e.fault e.disk
 
--- Given are a name and a layout, and what making a file of a name and of so many sectors may answer.
+-- Given are a name and a layout, what making a file of a name and of a number of sectors may answer, and what such a file holds.
 module _ {F : Type 0} (view : F → View) (created : List Byte → Sectors → Result (FileDisk F) FileFault → Type 0) (name : List Byte) (layout : Layout) where
-  -- A file of this name was made as a blank disk of the layout's sectors. If that is honest, so is this disk, which opens to this register.
+  -- A file of this name was made as a blank disk of the layout's sectors. If the blank disk is honest, so is this disk, which opens to this
+  -- register.
   abbrev pub IsMadeIn : State → FileDisk F → Type 0
   IsMadeIn register disk = OnDisk (created name (disk_size layout)) (IsBlankOf (disk_size layout))
       (λ blank. (file_view view blank).honest → IsMadeFor Global layout register (file_view view disk))

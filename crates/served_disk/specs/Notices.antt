@@ -8,11 +8,11 @@ use Rattle.served_disk.specs.declared.pairs.Pair.{Pair}
 use Rattle.served_disk.specs.Counts.{at_station}
 use Rattle.served_disk.specs.Faults.{fault_text}
 
--- the word for so many stations
+-- the words after the number of stations
 abbrev pub stations_word : ℕ → List Byte
 stations_word number = if nat_eq number 1 then codes " station, count " else codes " stations, count "
 
--- so many stations are served, over a register of this count
+-- this many stations are served, over a register that has accepted `count` commands
 abbrev pub serving_text : ℕ → ℕ → List Byte
 serving_text stations count = codes "serving " ++ decimal stations ++ stations_word stations ++ decimal count ++ codes "\n"
 
@@ -35,7 +35,7 @@ notice_text (notice.Ended station) = ended_text station
 abbrev pub served_in : List Pair → ℕ
 served_in pairs = length (filter (λ (pair : Pair). pair.is_served) pairs)
 
--- the pair of a station, of those of all stations
+-- the pair of this station in the list of all stations' pairs, if there is such a station
 abbrev pub pair_of : List Pair → Station → Option Pair
 pair_of pairs station = at_station pairs station
 

@@ -28,7 +28,7 @@ opened_by (Ok file) (Err error) old = record { lacks_output = true; input = old.
 opened_by (Ok file) (Ok out) old = record { lacks_output = old.lacks_output; input = Some file; output = Some out }
 
 -- The files of a pair were opened. Given are what opening the file of a name to read may answer, and what opening one to append
--- may answer. IN gave the one answer, and OUT the other if IN was opened; if it was not, nothing is stated of OUT.
+-- may answer. Opening IN answered `of_input`. If IN was opened, opening OUT answered `of_output`; otherwise nothing is stated of OUT.
 pub record IsOpening (opened appended : List Byte → Result File Error → Type 0) (pair : Pair) (old new : OpenFiles) : Type 0 where
   pub of_input : Result File Error
   pub of_output : Result File Error
@@ -78,7 +78,8 @@ module _ {R : Type 0} where
     pub logs : port.reader.log ≡ log
     pub new : port.reader.is_begun ≡ false
 
-  -- The port reads the file that opening this name gave. Its lines are counted for this station, and its answers wait in memory. There is none yet.
+  -- The port reads the file that opening this name gave. Its lines are counted for this station, and its answers wait in memory. No line
+  -- was read yet, and there is no answer.
   pub record IsFilePortOf (opened : List Byte → Result File Error → Type 0) (station : Station × Bor (List Byte))
       (port : Port (WatchedReader File R) (Vec Byte Global)) : Type 0 where
     pub reads : opened station.1.now (Ok port.reader.reader)

@@ -1,6 +1,6 @@
--- Why a call of a disk was refused. A fault of what is on the disk is there, a device fault comes only if the device has failed, and out of
--- memory masks no bad row or record that was read, and no refused command before the one that memory ran out for. It may mask a refused
--- command after it.
+-- Why a call on a disk was refused. A fault that is reported of what is on the disk is there. A device fault comes only if the device has failed.
+-- Out of memory masks no bad row or record that was read, and no refused command before the one for which memory ran out. It may mask a refused
+-- command after that one.
 use Rattle.std.specs.Prelude.{◌≡◌, ◌⊎◌, ◌++◌, ◌∷◌, List, [], Some, None, true, is_ok}
 use Rattle.identity.specs.Numbers.{Byte}
 use Rattle.sector_disk.specs.Disk.{View, HasFailed}
@@ -14,7 +14,8 @@ use Rattle.served_disk.specs.declared.fault.Fault.{Fault}
 use Rattle.served_disk.specs.declared.fault.Fault.TheVariants.{Device}
 use Rattle.served_disk.specs.Faults.{of_store}
 
--- The fault is one that the call may have. If the disk is honest, it is there, and none was met where memory ran out.
+-- The fault is one that the call may have (May). If the disk is honest, the fault is there (There). If the disk is honest and memory ran out, no
+-- fault was met (NoneMet). The fault is `DiskFault` only if the device has failed between the two views.
 pub record HasReason (May There : StoreFault → Type 0) (NoneMet : Type 0) (old new : View) (fault : StoreFault) : Type 0 where
   pub kind : May fault
   pub there : old.honest → There fault
@@ -49,7 +50,7 @@ module _ (A : Type 0) where
   abbrev pub IsUnchecked : View → View → StoreFault → Type 0
   IsUnchecked old new = HasReason IsOfOpening (λ fault. FailsCheck fault old.reads) (MeetsNoDamage old new) old new
 
--- the fault that is reported for one for which a call was refused, between these views of its disk
+-- the fault that is reported where a call was refused. Why says for which reason, by the views of the disk before and after
 abbrev pub Reports : (View → View → StoreFault → Type 0) → View → View → Fault → Type 0
 Reports Why old new fault = (reason : StoreFault) × Why old new reason × (fault ≡ of_store reason)
 

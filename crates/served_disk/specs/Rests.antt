@@ -1,4 +1,4 @@
--- What `check --rest` writes: the text of what is left of the register, the lines of a check, and a line on what lacks.
+-- What `check --rest` writes: the text of what is left of the register, the lines of a check, and a line on what is left and what is missing.
 use Rattle.std.specs.Prelude.{◌≡◌, ◌⊎◌, ℕ, Bool, List, ◌++◌, Option, Some, None, Ok, codes, decimal, is_ok}
 use Rattle.centre_core.specs.State.{State}
 use Rattle.checkpoint.specs.declared.layout.Layout.{Layout}
@@ -81,7 +81,8 @@ pub record IsRestReportedOn (A : Type 0) (checked : Checked) (line out : List By
   pub written : out ≡ lines ++ line
   pub judged : whole ≡ is_ok (opened_by checked.a checked.b)
 
--- The lines of a check and then this line, and whether the disk opens. If the disk is honest, a check of its image finds what they say.
+-- The lines of a check and then this line, and whether the disk opens. If the disk is honest, a check of its image finds `checked`, which the lines
+-- report.
 pub record IsRestReported (A : Type 0) (line out : List Byte) (whole : Bool) (disk : View) : Type 0 where
   pub checked : Checked
   pub found : disk.honest → checked_in A disk.reads ≡ Ok checked
@@ -89,10 +90,10 @@ pub record IsRestReported (A : Type 0) (line out : List Byte) (whole : Bool) (di
 
 -- ---- the text
 
--- Of a writer, given are what is known of its contents, and the relations between it before and after it takes bytes and is flushed.
+-- Of a writer, `contents` is what is known of its contents. `took` and `flushed` relate the writer before and after it takes bytes or is flushed.
 module _ (A : Type 0) {W : Type 0} (contents : W → Option (List Byte)) (took : W → List Byte → W → Type 0) (flushed : W → W → Type 0) (before after : W) where
-  -- This is the line of what is left, and the text of its register was written. If the disk is honest, that is what is left of its image, and so many
-  -- records of it can be read after the one at which those of the side end.
+  -- This is the line of what is left, and the text of the register that is left was written. If the disk is honest, both state what is left of its
+  -- image. The records of the side then end at the one in sector `bad`, if there is one, and `later` records can be read after that one.
   pub record IsRestDumped (line : List Byte) (disk : View) : Type 0 where
     pub side : Side
     pub epoch : Epoch
@@ -134,7 +135,7 @@ module _ (A : Type 0) {W : Type 0} (contents : W → Option (List Byte)) (took :
 abbrev pub IsLabelled : View → Type 0
 IsLabelled old = (layout : Layout) × (layout_in old.reads ≡ Ok layout)
 
--- Of a writer, given are the relations between it before and after it takes bytes and fails.
+-- Of a writer, `took` and `failed` relate the writer before and after it takes bytes or fails.
 module _ (A : Type 0) {W : Type 0} (took : W → List Byte → W → Type 0) (failed : W → W → Type 0) (before after : W) where
   -- the text of what is left was not written, for this reason
   pub record IsRestUnwritten (disk : View) (fault : DumpFault) : Type 0 where
@@ -146,22 +147,22 @@ module _ (A : Type 0) {W : Type 0} (took : W → List Byte → W → Type 0) (fa
     pub left : disk.honest → IsRestOf A disk.reads side epoch out register bad
     pub unwritten : IsUnwritten took failed (register_bytes register) before after fault
 
-  -- The disk was not read, for this reason, and nothing was written; or the text was not written, for this one. Given is what is so of an honest
-  -- disk if memory ran out while it was read.
+  -- The disk was not read, for this reason, and nothing was written; or the disk was read, and the text was not written, for this reason. NoneMet is
+  -- what holds of an honest disk if memory ran out while it was read.
   abbrev pub IsRestRefused : Type 0 → View → View → DiskDumpFault → Type 0
   IsRestRefused NoneMet old new (dump.Opening fault) = HasReason IsNoDamage (λ why. Fails why (opens A old.reads)) NoneMet old new fault × (after ≡ before)
   IsRestRefused NoneMet old new (dump.Writing fault) = IsRestUnwritten old fault
 
-  -- the same of a disk that was also checked: out of memory hides no missing layout
+  -- why no text was written for a disk that was also checked (`IsRestRefused`): out of memory hides no missing layout
   abbrev pub HasNoRestText : View → View → DiskDumpFault → Type 0
   HasNoRestText old new fault = IsRestRefused (IsLabelled old) old new fault
 
--- a fault of a check, where damage is no fault: it was found before memory ran out
+-- The fault that is reported where damage is no fault. Damage becomes `NoMemory`: a check answers damage only if memory ran out after it.
 abbrev pub without_damage : StoreFault → StoreFault
 without_damage (Damaged at) = NoMemory
 without_damage other = other
 
--- a fault of reading the disk is no damage
+-- the faults that writing what is left may have: any fault of writing, and any of reading the disk that is no damage
 abbrev pub IsOfRest : DiskDumpFault → Type 0
 IsOfRest (dump.Opening fault) = IsNoDamage fault
 IsOfRest (dump.Writing fault) = Unit {0}

@@ -1,4 +1,4 @@
--- What a disk opens to that is made of the dump of another.
+-- What a disk opens to that is made of the dump of another disk.
 use Rattle.std.specs.Prelude.{◌≡◌, List, [], None, Ok, Option, Some}
 use Rattle.identity.specs.Numbers.{Byte}
 use Rattle.registration.specs.declared.limits.Limits.{Limits}
@@ -50,8 +50,8 @@ pub record IsMadeOf (A : Type 0) (layout : Layout) (text : List Byte) (disk : Vi
   pub read : text_read layout.limits text ≡ Ok register
   pub made : IsMadeFor A layout register disk
 
--- Of a disk, its view is given. Of a writer, given are what is known of its contents, and the relations between it before and after it takes bytes
--- and is flushed.
+-- Of a disk, its view is given. Of a writer, `contents` is what is known of its contents. `took` and `flushed` relate the writer before and after it
+-- takes bytes or is flushed.
 module _ (A : Type 0) {D W : Type 0} (view : D → View) (contents : W → Option (List Byte)) (took : W → List Byte → W → Type 0) (flushed : W → W → Type 0) where
   -- an honest disk, and the writer before and after its dump was written
   pub record Dump : Type 0 where
@@ -75,7 +75,7 @@ module _ {A D W : Type 0} {view : D → View} {contents : W → Option (List Byt
   abbrev pub IsOfDump : Type 0
   IsOfDump = copy.text ≡ register_bytes copy.dump.dumped.register
 
-  -- The writer held nothing before the dump. A reader gives what it held after the dump, and the text is all of that.
+  -- The writer held nothing before the dump. A reader gives what the writer held after the dump, and the copy's text is all that the reader gives.
   pub record ReadsBack (given : Option (List Byte)) : Type 0 where
     pub nothing : contents copy.dump.before ≡ Some []
     pub same : given ≡ contents copy.dump.after

@@ -22,7 +22,8 @@ use Rattle.recovery.specs.declared.figures.Figures.{Figures}
 use Rattle.recovery.specs.Figures.{figures_in}
 
 module _ {A : Type 0} where
-  -- The answer to what the only line says. A query is answered as a station's. A command is no query, and so a bad line.
+  -- The answer to what the only line says. A query or a listing is answered as in line 1 of a station. Any other line that is not silent is a bad
+  -- line: a command, a mark, and a question for the station or the service.
   abbrev pub ShowsReading : State → Line A → Answer A → Type 0
   ShowsReading s line.Silent given = given ≡ answer.Quiet
   ShowsReading s (line.Bad fault) given = given ≡ answer.Bad 1 fault
@@ -84,7 +85,7 @@ abbrev pub epochs_text : List Byte → Figures → List Byte
 epochs_text word figures = word ++ codes " layout " ++ decimal figures.layout ++ codes " side " ++ side_text figures.side
     ++ codes " epoch " ++ decimal figures.epoch ++ codes " left " ++ decimal figures.epochs_left
 
--- the rest of the line: the half of the side, and the number of commands
+-- the rest of the line: the first closed gate of the half, how many sectors the half has from that gate on, and how many commands were accepted
 abbrev pub half_text : Figures → List Byte
 half_text figures = codes " gate " ++ decimal figures.gate ++ codes " free " ++ decimal figures.free ++ codes " count " ++ decimal figures.count ++ codes "\n"
 

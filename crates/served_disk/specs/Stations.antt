@@ -19,9 +19,9 @@ use Rattle.served_disk.specs.declared.port_names.PortNames.{PortNames}
 use Rattle.served_disk.specs.Faults.{IsOfRun, fault_status}
 use Rattle.served_disk.specs.Printing.{station_text}
 
--- Stations 1, 2 and so on were served over a store that was opened, each with the lines and to the writer of its port. Given are which of
--- them may give orders, and the most calls of each reader. This came of it: the disk of the store, to which nothing more was done, the run of
--- each station, and whether the store broke.
+-- Stations 1, 2 and so on were served over a store that was opened, each with the lines and to the writer of its port. `orders` says which of them
+-- may give orders, and `turns` is the most calls of each reader. `served` has the run of each station, the disk of the store, to which nothing more
+-- was done, and whether the store broke.
 pub record AreServed {D I O : Type 0} (disk : D → View) (J : Type 0) (base : State) (orders : Orders) (turns : ℕ) (unread : I → Option (List Byte)) (written : O → Option (List Byte))
     (opened : StoreView Global D) (ports : List (Port I O)) (served : Served D I O) : Type 0 where
   pub store : StoreView Global D

@@ -36,7 +36,8 @@ use std::rt::Clock;
 /// What a check of a disk reports.
 #[derive(Drop)]
 pub struct CheckReport<A: Allocator> {
-    /// A line for each side, or for each damaged sector of it and for what it loses, and one for the whole disk.
+    /// A line for each side that is whole or unused; for each damaged side a line for each damaged sector, and one for what the side loses; and
+    /// one for the whole disk.
     pub text: Vec<u8, A>,
     /// Whether the disk opens and no side is damaged.
     pub well: bool,
@@ -141,7 +142,7 @@ fn print_damaged<W: Write>(out: &mut W, side: Side, damaged: &[Damage]) -> io::R
     Ok(())
 }
 
-/// Writes the line of a side in this state, or of each of its damaged sectors and of what it loses.
+/// Writes the line of an unused or whole side; of a damaged side, a line for each damaged sector and one for what the side loses.
 fn print_side<W: Write>(
     out: &mut W,
     side: Side,
@@ -265,10 +266,11 @@ pub(crate) fn report_on<A: Allocator + Copy + Drop, D: Disk>(
 /// Checks both sides of a disk. The disk is synced once, and then only read. It is returned, also after a fault.
 ///
 /// # Errors
-/// There is no layout on the disk, the device has failed, or out of memory. That masks no bad row or record that was read, and no refused
-/// command before the one that memory ran out for. It may mask a refused command after it. Damage is no error: the text reports it. But it
-/// may be `Damaged` in place of a report, with the first damaged sector of side A, or else of side B; that memory ran out then, no clause
-/// can say.
+/// There is no layout on the disk, the device has failed, or out of memory. Out of memory masks no bad row or record that was read, and no
+/// refused command before the one for which memory ran out. It may mask a refused command after that one.
+///
+/// Damage is no error: the text reports it. But the fault may be `Damaged` in place of a report: memory ran out after damage was found. It
+/// names the first damaged sector of side A, or else of side B. No clause says that memory ran out then.
 pub fn check_on<A: Allocator + Copy + Drop, D: Disk>(
     alloc: A,
     disk: D,
@@ -294,8 +296,7 @@ pub fn check_on<A: Allocator + Copy + Drop, D: Disk>(
 /// counts the sectors that are read.
 ///
 /// # Errors
-/// Those of `open_disk`. It may be `Damaged` in place of a report, with the first damaged sector of side A, or else of side B; that memory
-/// ran out then, no clause can say. `Memory` also comes if there is none for a text of 1,024 bytes.
+/// Those of `open_disk`, but `Damaged` only as `check_on` returns it. `Memory` also comes if there is none for a text of 1,024 bytes.
 pub fn check_disk<'a, F: SectorFile, R: DiskFiles<F> + Clock + Eprint>(
     rt: &R,
     alloc: Global,

@@ -46,7 +46,8 @@ pub(crate) fn dump<A: Allocator + Clone, B: Allocator + Clone, W: TextSink>(
 ///
 /// # Errors
 /// `Opening` for a fault of what is on the disk, the device if it has failed, and out of memory, which hides no bad row or record
-/// that was read: nothing is written. `Writing` only if the writer failed, or if memory ran out and it did not: a prefix of the text is written.
+/// that was read: nothing is written. `Writing` only if the writer failed, or if memory ran out and the writer did not fail: a prefix of the
+/// text is written.
 pub fn dump_on<A: Allocator + Copy + Drop, D: Disk, W: TextSink>(
     alloc: A,
     disk: D,
@@ -74,8 +75,8 @@ pub fn dump_on<A: Allocator + Copy + Drop, D: Disk, W: TextSink>(
 /// returned.
 ///
 /// # Errors
-/// Those of `open_disk`. `File` with `-` only if the writer failed, and `Memory` only if it did not. If no disk comes back, nothing is
-/// written.
+/// Those of `open_disk`. `File` with `-` only if the writer failed, and `Memory` only if the writer did not fail. If no disk comes back,
+/// nothing is written.
 pub fn dump_disk<'a, F: SectorFile, R: DiskFiles<F>, W: TextSink>(
     rt: &R,
     alloc: Global,

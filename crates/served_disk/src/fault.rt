@@ -133,7 +133,7 @@ impl<'a> Fault<'a> {
         }
     }
 
-    /// Writes its line, and that of its cause if this is known.
+    /// Writes the line of the fault. For a file, the line of the cause follows, if the cause is not `Other`.
     pub fn print<W: Write>(&self, out: &mut W) -> io::Result<()>
         ensures { OnOk result (Appends (W.contents out.old) (W.contents out.new) (fault_text self.now)) }
     {

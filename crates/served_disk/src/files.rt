@@ -74,10 +74,10 @@ fn first_not_served(named: &[u16], served: usize) -> Option<&u16>
     named.iter().find(|station| is_beyond(**station, served))
 }
 
-/// Checks that none of the stations named for orders is beyond those served. So many are served.
+/// Checks that none of the stations named for orders has a number larger than `served`, the number of stations that are served.
 ///
 /// # Errors
-/// `NotServed` with the first that is beyond them.
+/// `NotServed` with the first that has a larger number.
 pub fn check_orders<'a>(named: &[u16], served: usize) -> Result<(), Fault<'a>>
     ensures served { OnOk result (not_served served named.now ≡ None) }
     ensures refused { IfErr result (λ fault. option_map NotServed (not_served served named.now) ≡ Some fault) }

@@ -11,7 +11,8 @@ use sector_disk::Disk;
 use std::alloc::Allocator;
 
 /// A disk that is made of the dump of another, as `dump_on`, `load_register` and `make_disk_with` say, opens to the same register under
-/// its limits, also after a stop at any moment. A load that refuses the dump does so only since the register has no place under its limits.
+/// the new disk's limits, also after a stop at any moment. A load refuses the dump only if memory ran out, the dump was not read, or the
+/// register has no place under the limits of the load.
 pub fn dumped_and_loaded<A: Allocator, D: Disk, W: TextSink, R: TextSource>()
     // The reader gives what the writer holds.
     ensures known { (copy : Copy A D.view W.contents W.took W.flushed) (reader : R) → ReadsBack copy (R.remaining reader) → KeepsRegister copy }

@@ -29,7 +29,7 @@ fn is_header(kind: Kind) -> bool
     matches!(kind, Kind::Header)
 }
 
-/// Whether it is a record, or a gate that no record follows.
+/// Whether a sector of this kind is to hold a record, or a gate that no record follows.
 fn is_of_records(kind: Kind) -> bool
     ensures { result ≡ is_of_records kind }
 {

@@ -1,4 +1,4 @@
-//! A disk made for an empty register, or for one that is there.
+//! A disk that is made for an empty register, or for one that is given.
 ghost use Rattle.std.specs.Prelude.{◌≡◌, ◌↔◌, IfErr, IfOk, IfSome, IsSome, None, Ok, Some, is_err, true};
 ghost use Rattle.file_disk.specs.Disk.{calls_of};
 ghost use Rattle.centre_core.specs.State.{empty};
@@ -84,8 +84,8 @@ fn if_formatted<'a, F: SectorFile>(
 /// disk. Nothing is written after the last sync.
 ///
 /// # Errors
-/// `File` if the file can't be made or exists already, `Device` and `Memory`. Once it holds all sectors, only `Device` comes, if the
-/// disk has failed. A file that could not be finished is left.
+/// `File` if the file can't be made or exists already, `Device` and `Memory`. Once the file holds all sectors, only `Device` comes, and only
+/// if the disk has failed. A file that could not be finished is not removed.
 pub fn format_disk<'a, F: SectorFile, R: DiskFiles<F>>(
     rt: &R,
     layout: &Layout,

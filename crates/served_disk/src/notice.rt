@@ -32,7 +32,7 @@ pub(crate) enum Notice<'a> {
 }
 
 impl<'a> Notice<'a> {
-    /// Writes its line; of a fault, also that of its cause.
+    /// Writes the line of the notice; of a fault, also that of its cause.
     pub(crate) fn print<W: Write>(&self, out: &mut W) -> io::Result<()>
         ensures { OnOk result (Appends (W.contents out.old) (W.contents out.new) (notice_text self.now)) }
     {
@@ -48,7 +48,8 @@ impl<'a> Notice<'a> {
         }
     }
 
-    /// Writes it to standard error, by one write if it is no longer than 1,024 bytes (tested). `None` if that failed, or if memory ran out.
+    /// Writes the notice to standard error, by one write if its text is no longer than 1,024 bytes (tested). `None` if that failed, or if
+    /// memory ran out.
     pub(crate) fn report<R: Eprint>(&self, rt: &R, alloc: Global) -> Option<()> {
         let mut line = Vec::new(alloc);
         self.print(&mut line).ok()?;
@@ -57,7 +58,7 @@ impl<'a> Notice<'a> {
     }
 }
 
-/// The word for so many stations.
+/// The words after the number of stations.
 fn stations_word(number: u64) -> &'static str
     ensures { result.now ≡ stations_word number }
 {

@@ -32,11 +32,11 @@ pub(crate) fn adopt_disk<'a, F: SectorFile, R: DiskFiles<F>>(
 }
 
 /// Opens the register that is kept on the disk in the file of this name, and keeps that file locked. The disk is synced once,
-/// and then only read. After a fault it is returned. `syncs` counts the syncs of the disk.
+/// and then only read. After a fault the disk is returned, if the file gave one. `syncs` counts the syncs of the disk.
 ///
 /// # Errors
 /// `File` if the file can't be opened or another process holds it; `Unformatted`, `BadGeometry` or `Damaged` for what is on the
-/// disk; `Device` only if the file can't be taken as a disk or the disk has failed, and `Memory` in place of no bad row or record
+/// disk; `Device` only if the file can't be taken as a disk or the disk has failed; and `Memory`, which hides no bad row or record
 /// that was read.
 pub fn open_disk<'a, 's, F: SectorFile, R: DiskFiles<F>>(
     rt: &R,

@@ -87,7 +87,7 @@ fn is_left_out(input: &str, output: &str) -> bool
     input == "-" && output == "-"
 }
 
-/// Whether only one of this IN and OUT is left out.
+/// Whether only one of this IN and OUT is `-`.
 fn is_half_left_out(input: &str, output: &str) -> bool
     ensures { result ≡ is_half_left_out input.now output.now }
 {
@@ -113,7 +113,7 @@ impl<'a> Pair<'a> {
         Pair::named(input, output, !is_left_out(input, output))
     }
 
-    /// The standard streams, which faults name `-`. They are open. No `PairReader` reads such a pair: it goes by the names, and would end
+    /// The standard streams, which faults name `-`. They are open. No `PairReader` reads such a pair: by these names the reader would end
     /// at once.
     pub fn of_streams() -> Pair<'a>
         ensures { AreStreams result }
@@ -145,7 +145,7 @@ impl<'a> Pair<'a> {
         self.is_served
     }
 
-    /// That the lines of this station are served.
+    /// The notice that the lines of this station are served.
     pub(crate) fn started(&self, station: u64) -> Notice<'a>
         ensures { result ≡ Started station self.now.input self.now.output }
     {
@@ -156,8 +156,8 @@ impl<'a> Pair<'a> {
         }
     }
 
-    /// The files that faults of the station's run name. If OUT could not be opened, a fault of reading names OUT. The clause says: one of
-    /// the two.
+    /// The files that faults of the station's run name. If OUT could not be opened, a fault of reading names OUT, else IN. The clause says
+    /// only that it names one of the two.
     pub fn names<R: Wait>(&self, rt: &R) -> PortNames<'a>
         ensures { AreNamesOf self.now result }
     {

@@ -25,7 +25,7 @@ use std::time::Duration;
 pub struct Progress<'r, R> {
     rt: &'r R,
     pace: Pace<'r, R>,
-    /// Whether no flusher makes rounds. Then it is reported when a line is counted.
+    /// Whether no flusher makes rounds. Then the progress is reported when a line is counted.
     is_alone: bool,
     /// For each station in order, how many of its lines are known to be served.
     lines: Vec<AtomicU64>,

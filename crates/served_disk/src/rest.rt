@@ -38,7 +38,7 @@ use std::rt::Clock;
 pub struct RestReport<A: Allocator> {
     /// The lines of a check, and one of what is left.
     pub text: Vec<u8, A>,
-    /// Whether the disk opens, so that nothing lacks.
+    /// Whether the disk opens, so that nothing is missing.
     pub whole: bool,
 }
 
@@ -200,7 +200,7 @@ fn write_rest<A: Allocator + Copy + Drop, D: Disk, W: TextSink>(
     }
 }
 
-/// A fault of a check, where damage is no fault: it was found before memory ran out.
+/// The fault that is reported where damage is no fault. Damage becomes `NoMemory`: a check answers damage only if memory ran out after it.
 fn without_damage(fault: StoreFault) -> StoreFault
     ensures { result ≡ without_damage fault }
 {
@@ -215,7 +215,8 @@ fn without_damage(fault: StoreFault) -> StoreFault
 ///
 /// # Errors
 /// `Opening` if there is no layout on the disk, the device has failed, or out of memory, which hides no missing layout: nothing is written.
-/// Damage is no error. `Writing` only if the writer failed, or if memory ran out and it did not: a prefix of the text is written.
+/// Damage is no error. `Writing` only if the writer failed, or if memory ran out and the writer did not fail: a prefix of the text is
+/// written.
 pub fn rest_on<A: Allocator + Copy + Drop, D: Disk, W: TextSink>(
     alloc: A,
     disk: D,
@@ -242,8 +243,8 @@ pub fn rest_on<A: Allocator + Copy + Drop, D: Disk, W: TextSink>(
 /// and then only read. It is returned. `tally` counts the sectors that are read.
 ///
 /// # Errors
-/// Those of `open_disk` but `Damaged`; `Memory` may hide damage. `File` with `-` only if the writer failed, and `Memory` only if it did
-/// not. If no disk comes back, nothing is written.
+/// Those of `open_disk` but `Damaged`; `Memory` may hide damage. `File` with `-` only if the writer failed, and `Memory` only if the writer
+/// did not fail. If no disk comes back, nothing is written.
 pub fn rest_disk<'a, F: SectorFile, R: DiskFiles<F> + Clock + Eprint, W: TextSink>(
     rt: &R,
     alloc: Global,

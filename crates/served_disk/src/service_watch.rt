@@ -21,12 +21,12 @@ use std::sync::{OnceLock, Wait};
 pub struct Manner<'f> {
     /// Whether it reports the starts and ends of its stations.
     pub log: bool,
-    /// Where it puts the exit status when the device has failed; the program then ends. `None`: it goes on.
+    /// Where it puts the exit status when the device has failed; the program then ends. `None`: the program goes on.
     pub finish: Option<&'f OnceLock<ExitCode>>,
 }
 
 /// What a service does as its stations end: it closes the files of each, and reports its fault on standard error. A device that
-/// fails is reported once, at the first command that this refuses (tested). Threads may share it.
+/// fails is reported once, at the first command that is refused for this (tested). Threads may share it.
 #[derive(Drop)]
 pub struct ServiceWatch<'r, 'p, 'a, R> {
     rt: &'r R,
@@ -62,12 +62,12 @@ impl<'r, 'p, 'a, R: Eprint + Wait> ServiceWatch<'r, 'p, 'a, R> {
         }
     }
 
-    /// The service begins, over a register that has accepted so many commands. It is reported if a log is wanted.
+    /// The service begins, over a register that has accepted this many commands. That is reported if a log is wanted.
     pub fn begin(&self, count: u64) {
         self.note(&self.serving(count));
     }
 
-    // That its stations are served, over a register that has accepted so many commands.
+    // The notice that the service's stations are served, over a register that has accepted this many commands.
     fn serving(&self, count: u64) -> Notice<'a>
         ensures { result ≡ Serving (served_in self.now.pairs.now) count }
     {
@@ -77,14 +77,14 @@ impl<'r, 'p, 'a, R: Eprint + Wait> ServiceWatch<'r, 'p, 'a, R> {
         }
     }
 
-    /// The lines of this station are served, whose files are open already. It is reported if a log is wanted.
+    /// The lines of this station are served, and its files are open already. That is reported if a log is wanted.
     pub fn start(&self, station: Station) {
         if let Some(notice) = self.started(station) {
             self.note(&notice);
         }
     }
 
-    // That the lines of this station are served.
+    // The notice that the lines of this station are served, if there is such a station.
     fn started(&self, station: Station) -> Option<Notice<'a>>
         ensures { result ≡ started_in self.now.pairs.now station }
     {

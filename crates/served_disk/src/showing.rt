@@ -15,9 +15,9 @@ use std::alloc::{AllocError, Allocator};
 /// What is shown for a query or a listing.
 #[derive(Drop)]
 pub struct Shown<A: Allocator> {
-    /// The text of its answer.
+    /// The text of the answer.
     pub text: Vec<u8, A>,
-    /// Whether it reports a bad line or out of memory.
+    /// Whether the answer reports a bad line or out of memory.
     pub troubled: bool,
 }
 
@@ -36,7 +36,7 @@ fn answer_query<A: Allocator + Copy, B: Allocator + Clone>(
 }
 
 /// The answer to the only line, or the listing that it asks for. A command is no query, and so a bad line; so are a mark and the
-/// questions for the station and the service, which ask no register. Only a command takes memory.
+/// questions for the station and the service, which ask no register. Parsing takes memory only for a command.
 fn answer<A: Allocator + Copy, B: Allocator + Clone>(
     alloc: A,
     register: &Register<B>,
@@ -91,7 +91,8 @@ fn write_listing<A: Allocator, B: Allocator + Clone>(
     true
 }
 
-/// Makes the text of the answer to the only line, and returns whether it reports trouble.
+/// Makes the text of the answer to the one line that the register is asked, and returns whether the answer reports trouble. A query is
+/// answered at once. A listing comes as `Err`, because its text is written straight from the register.
 fn write_shown<A: Allocator + Copy + Drop, B: Allocator + Clone>(
     text: &mut Vec<u8, A>,
     alloc: A,
@@ -111,7 +112,7 @@ fn write_shown<A: Allocator + Copy + Drop, B: Allocator + Clone>(
 /// Answers a line that is to be a query, as the only line of a station; the register is only read. A command is a bad line.
 ///
 /// # Errors
-/// There is no memory for a text of 1,024 bytes. (Where there is none for a longer one, the answer says so.)
+/// There is no memory for a text of 1,024 bytes. If there is none for a longer text, the answer reports out of memory.
 pub fn show<A: Allocator + Copy + Drop, B: Allocator + Clone>(
     alloc: A,
     register: &Register<B>,

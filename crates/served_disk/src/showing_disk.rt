@@ -19,7 +19,7 @@ use recovery::{Store, StoreFault};
 use sector_disk::Disk;
 use std::alloc::{AllocError, Allocator, Global};
 
-/// Answers a line about a store that is not broken: `disk` by its figures, a query by its register.
+/// Answers a line about a store that is not broken: `disk` by the figures of its disk, any other line by its register.
 fn show_store<A: Allocator + Copy + Drop, D: Disk>(
     alloc: A,
     store: &Store<A, D>,

@@ -40,7 +40,8 @@ fn print_epochs<W: Write>(out: &mut W, word: &str, figures: &Figures) -> io::Res
     print(out, &parts)
 }
 
-/// Writes the rest of the line: the half of the side, and the number of commands.
+/// Writes the rest of the line: the first closed gate of the half, how many sectors the half has from that gate on, and how many commands
+/// were accepted.
 fn print_half<W: Write>(out: &mut W, figures: &Figures) -> io::Result<()>
     ensures { OnOk result (Appends (W.contents out.old) (W.contents out.new) (half_text figures.now)) }
 {

@@ -36,15 +36,15 @@ module _ (J : Type 0) (base : State) where
       (record { speaker = speaker; world = record { station = speaker.station; view = s }; unread = unread; written = written })
       (record { result = ran; world = record { station = speaker.station; view = t }; written = after })
 
-  -- What is told of a run (`IsRunOf`) in which this passed, whatever the reader and the writer are.
+  -- What is known of a run (`IsRunOf`) by the calls of its reader and its writer, which `passed` has, whatever reader and writer are.
   abbrev pub IsToldOf : {I O : Type 0} → Speaker → Option (List Byte) → Option (List Byte) → Passed I O → SessionView → SessionView → Option (List Byte) → Result Ran RunFault → Type 0
   IsToldOf speaker unread written passed s t after ran =
       TellsBy Global (of_session J base speaker.orders) speaker unread written
       (record { station = speaker.station; view = s }) (record { station = speaker.station; view = t }) after ran (reader_events passed) (writer_events passed)
 
   module _ {I O : Type 0} (unread : I → Option (List Byte)) (written : O → Option (List Byte)) where
-    -- A session answered the lines of its port and then ended, and this came of it. `last` is the session after the run, which submitted no
-    -- order in it if its station may give none; then it sent its end, and nothing else.
+    -- The session of a job answered the lines of its port and then ended, and `done` came of it. `last` is the session after the run. In the
+    -- run it submitted no order if its station may give none. After the run it sent its end, and nothing else.
     pub record EndsAs (job : Job J I O) (last : SessionView) (done : Done J I O) : Type 0 where
       pub run : IsRunOf (speaker_of job) (unread job.port.reader) (written job.port.writer) (view_of job.session) last (written done.run.writer) done.run.ran
       pub told : IsToldOf (speaker_of job) (unread job.port.reader) (written job.port.writer) done.run.passed (view_of job.session) last (written done.run.writer) done.run.ran
@@ -55,7 +55,7 @@ module _ (J : Type 0) (base : State) where
       pub channel : receives_on done.ended.receiver.channel ≡ receives_on job.session.receiver.channel
       pub seen : done.ended.viewer ≡ last.seen
       pub submits : Submits job.orders job.session.sender.sent last.sent
-      -- if the run was out of memory, it did nothing
+      -- if the run was out of memory, it left the session unchanged
       pub memory : IsErrOf done.run.ran NoMemory → last ≡ view_of job.session
 
     -- this came of the job, whatever the session was after its run

@@ -30,7 +30,7 @@ module _ {J : Type 0} where
     pub seen : IsPrefix b.seen s.viewer
     pub submits : Submits may_order b.sender.sent s.sender.sent
 
-  -- the session goes on from its beginning, if it is given how it began
+  -- the session goes on from this beginning; without a beginning nothing is stated
   abbrev pub GoesOn : Bool → Option Beginning → Session J → Type 0
   GoesOn may_order None s = Unit {0}
   GoesOn may_order (Some b) s = GoesOnFrom may_order b s

@@ -8,16 +8,16 @@ abbrev pub takes_turn : Listing → Bool
 takes_turn (listing.Last station) = false
 takes_turn other = true
 
--- a listing counts as one of at most so many nanoseconds
+-- of the time that a listing took, at most so many nanoseconds count (`opening`)
 abbrev pub most_counted : ℕ
 most_counted = 100000000
 
--- The moment from which the next listing may begin, after one that began and ended at these moments, in nanoseconds: between the two are nine
--- times as many as the listing took.
+-- The moment from which the next listing may begin, after a listing that began and ended at these moments, all in nanoseconds. The rest
+-- between the two is nine times as long as the listing took, of which at most `most_counted` counts.
 abbrev pub opening : ℕ → ℕ → ℕ
 opening began ended = ended + 9 * min (ended - began) most_counted
 
--- more than two texts are kept only while they take at most so many bytes, and one text more
+-- a text beside two others or more is kept only if those take at most so many bytes (`MayKeep`)
 abbrev pub spare_bytes : ℕ
 spare_bytes = 4194304
 

@@ -11,8 +11,8 @@ use Rattle.stations.specs.declared.orders.Orders.{Orders}
 use Rattle.stations.specs.declared.port.Port.{Port}
 use Rattle.stations.specs.declared.station_run.StationRun.{StationRun}
 
--- A run of many stations over a store that is open in a life of the disk, and not broken, goes on with that life, by a call for each round of
--- its flusher, and with a stop at any moment.
+-- Given is a store that is open in a life of the disk, and not broken. A run of many stations over this store goes on with this life: each
+-- round of its flusher is a call in the life, and a stop may come at any moment (`HasLived`).
 abbrev pub RunsGoOnWithLives : {D I O : Type 0} → (D → View) → (J : Type 0) → State → (I → Option (List Byte)) → (O → Option (List Byte)) → Type 0
 RunsGoOnWithLives {D} {I} {O} disk J base unread written =
     (orders : Orders) (turns : ℕ) (opened store : StoreView Global D) (ports : List (Port I O)) (runs : List (StationRun I O))

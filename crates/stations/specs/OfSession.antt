@@ -53,7 +53,7 @@ module _ {J : Type 0} where
   result_of (answer.Fault f) = Err (word_of f)
   result_of answer.Closed = Err Closed
 
--- a command is answered so once the device has failed
+-- the result is `device` or `broken`: a command is answered so once the device has failed
 abbrev pub is_failure : Result (Reply Global) Outage → Bool
 is_failure (Ok replied) = false
 is_failure (Err Memory) = false
@@ -77,7 +77,7 @@ pub record IsSubmitted (J : Type 0) (base : State) (s : AtSession) (c : Asked Gl
 abbrev pub IsOfAnother : AtSession → Asked Global → Result (Reply Global) Outage → AtSession → Type 0
 IsOfAnother s c result t = (c.station ≡ s.station → ⊥) × (result ≡ Err Closed) × (t ≡ s)
 
--- an order, and the station may give none: it is not submitted, and nothing changes
+-- The command is an order, and the session's station may give none: the command is not submitted, and nothing changes.
 abbrev pub IsForbidden : Bool → AtSession → Asked Global → Result (Reply Global) Outage → AtSession → Type 0
 IsForbidden may_order s c result t = (is_allowed may_order c ≡ false) × (result ≡ Err Closed) × (t ≡ s)
 

@@ -14,9 +14,9 @@ use Rattle.console.specs.declared.running.RunFault.TheVariants as fault
 use Rattle.flusher.specs.declared.session.Session.{Session}
 use Rattle.stations.specs.OfSession.{at_session, of_session}
 
--- The lines of a session's station were run by it, with a centre that was opened over the register `base`. Given is whether the station may
--- give orders. Before the run these are the session, what the reader had left, and what the writer held; after it the result, the session, and
--- what the writer holds.
+-- The lines of a station were answered by its session with a centre that was opened over the register `base`. Given is whether the station may
+-- give orders. Then come the session, what the reader had left and what the writer held before the run. Last come the result, the session and
+-- what the writer holds after the run.
 abbrev pub IsRunBy : (J : Type 0) → State → Bool → Session J → Option (List Byte) → Option (List Byte) → Result Ran RunFault → Session J → Option (List Byte) → Type 0
 IsRunBy J base may_order s unread before result t after = IsRun Global (of_session J base may_order)
     (record { speaker = record { station = s.sender.station; orders = may_order }; world = at_session s; unread = unread; written = before })
@@ -43,7 +43,7 @@ module _ {J I O L F G : Type 0} where
     pub answers : IsRunBy J base may_order session (unread input.reader.now) (written output.writer.now) result.1 result.0 (written output_now.writer.now)
     -- over any reader and any writer: what was read, and what was written after it was answered
     pub told : IsToldBy J base may_order session (streams_of unread written input output) result.1 result.0 (streams_of unread written input_now output_now)
-    -- where the reader failed, or was called as often as it may be
+    -- if the run ended because the reader failed or was called as often as it may be: every whole line is answered (`IsWholeBy`)
     pub whole : IsErrOf result.1 fault.Read → IsWholeBy J base may_order session (streams_of unread written input output) result.0 (streams_of unread written input_now output_now)
     -- why it ended, by the calls of the reader and the writer
     pub ends : EndsSince turns (calls_of input) (calls_of input_now) (events_of output) (events_of output_now) result.1

@@ -20,7 +20,7 @@ abbrev pub may_by : List Station → Station → Bool
 may_by [] station = true
 may_by named station = list_any (λ one. one == station) named
 
--- the command may be given by a station that may give orders, or may not
+-- a station may give the command: an order only if it may give orders (`may_order`)
 abbrev pub is_allowed : Bool → Asked Global → Bool
 is_allowed may_order c = may_order || not (is_order c.body)
 

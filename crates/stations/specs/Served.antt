@@ -65,7 +65,7 @@ pub record IsBorneOut (J : Type 0) (base : State) (durable : List (Asked Global)
 abbrev pub speaker_at : Orders → ℕ → Speaker
 speaker_at orders k = record { station = k + 1; orders = may orders (k + 1) }
 
--- the session received this reply to this command, and it was durable before it was sent
+-- the session received this reply to this command, and the reply was durable before it was sent
 abbrev pub IsReplyDurable : {D : Type 0} → (D → View) → State → FlusherView D → List Sent → Asked Global → Reply Global → Type 0
 IsReplyDurable disk base last received c reply =
     (x : Sent) × Contains received x × (x.command ≡ c) × (x.decision ≡ Replied reply) × WasDurable disk base last x
@@ -76,15 +76,15 @@ pub record IsWrittenAfter {D I O : Type 0} (disk : D → View) (J : Type 0) (bas
     (passed : Passed I O) (unread before after : Option (List Byte)) : Type 0 where
   -- the bytes that the calls of the reader gave are the first that it had left, if these are known
   pub gave : GaveFirst unread (read_by (reader_events passed))
-  -- these are the first lines of them, and their answers, one for each
+  -- the lines in these bytes are `done` and then `left`; `answers` are the answers to `done`, one for each line
   pub done : List (List Byte)
   pub left : List (List Byte)
   pub first : lines (read_by (reader_events passed)) ≡ done ++ left
   pub answers : List (Answer Global)
   pub each : Dialogue (of_session J base speaker.orders) speaker 0 (record { station = speaker.station; view = new_view }) done answers
       (record { station = speaker.station; view = view })
-  -- at each moment of the run what was written is a prefix of what was answered before, in the texts of these answers. The writer holds it, if
-  -- its bytes are known
+  -- What was written follows what the writer held before, if the bytes of the writer are known. At each moment of the run it is a prefix of the
+  -- texts that were answered before. The texts of `answers` are those that were answered in the run, and then `missing`.
   pub taken : HasTaken before (writer_events passed) after
   pub only : OnlyAnswers (writer_events passed)
   pub missing : List Byte
@@ -109,14 +109,16 @@ pub record HasServed {D I O : Type 0} (disk : D → View) (J : Type 0) (base : S
   pub core : IsCoreRun base (length ports) first last
   pub settled : IsSettled base last
   pub store_is : store ≡ last.store
-  -- the register was on the disk at first, if the disk was honest when the store was opened, and is
+  -- if the disk was honest when the store was opened, and is when the run begins, the register is on the disk then
   pub kept : HasBeenHonest disk opened → IsStoredIn Global disk opened
-  -- if it was, each image of the disk opens to what is durable in the end, or to that and what was under way when the disk failed
+  -- if the register is on an honest disk then, each image of the disk opens to what is durable in the end, or to this and what was under way
+  -- when the disk failed
   pub stored : (disk opened.disk).honest → IsStoredIn Global disk opened → IsStoredFor disk base last
-  -- after a stop at any moment of the run the disk opens to no less than was durable at first, and to no more than is durable at last
+  -- After a stop at any moment of the run the disk opens to no less than was durable at first. It opens to no more than is durable at last, or
+  -- if the disk has failed, than this and what was under way.
   pub any_moment : (disk opened.disk).honest → IsStoredIn Global disk opened
       → LeavesOnly (disk opened.disk) (disk store.disk) (OpensBetween base first last)
-  -- after the end of a round it opens to no less than was durable then
+  -- after a stop since the end of a round the disk opens to no less than was durable then
   pub lasting : (disk opened.disk).honest → IsStoredIn Global disk opened → AreLasting disk base first last
   -- only a failure of the disk breaks the store
   pub later : (disk opened.disk).failures ≤ (disk store.disk).failures
@@ -127,8 +129,9 @@ pub record HasServed {D I O : Type 0} (disk : D → View) (J : Type 0) (base : S
   pub each : (k : ℕ) (port : Port I O) (run : StationRun I O) (view : SessionView)
       → slice_get ports k ≡ Some port → slice_get runs k ≡ Some run → slice_get views k ≡ Some view
       → IsRunOf J base (speaker_at orders k) (unread port.reader) (written port.writer) new_view view (written run.writer) run.ran
-  -- why each run ended: its text came to its end, its reader failed or was called as often as it may be, its writer failed, or it was given
-  -- up as out of memory before the first call, also where no thread could be made. Its reader and its writer failed in no other run
+  -- Why each run ended: its text came to its end, its reader failed or was called as often as it may be, its writer failed, or it was given
+  -- up as out of memory before the first call, also where no thread could be made. A reader failed only in a run that ended for its reader,
+  -- and a writer only in a run that ended for its writer.
   pub ends : (k : ℕ) (run : StationRun I O) → slice_get runs k ≡ Some run → EndsFor turns (reader_events run.passed) (writer_events run.passed) run.ran
   -- a run that was out of memory came to no line: its session had sent, received and seen nothing
   pub memory : (k : ℕ) (run : StationRun I O) (view : SessionView) → slice_get runs k ≡ Some run → slice_get views k ≡ Some view → IsErrOf run.ran fault.NoMemory → view ≡ new_view

@@ -50,7 +50,7 @@ fn read<K: Began, J: Centre>(
     }
 }
 
-// Whether a text may be kept until it is written. One that took no memory may.
+// Whether a text may be kept until it is written. A text that fits into the room that `out` had before may; it is not counted.
 fn may_keep<R: Wait>(text: &StationText<'_, '_, R>, room: usize, out: &Vec<u8, Global>) -> bool
     ensures { result ≡ false → room < vec_len out.now }
 {

@@ -7,14 +7,14 @@ use std::sync::{Mutex, MutexGuard, Wait};
 use std::thread;
 use std::time::Duration;
 
-/// For how many times as long as a listing took none begins after it.
+/// After a listing no other begins for so many times as long as it took.
 const REST: u64 = 9;
 
-/// A listing counts as one of at most so many nanoseconds: so no rest is longer than nine tenths of a second, also where
-/// the machine is busy and the clock goes on.
+/// Of the time that a listing took, at most so many nanoseconds count. So no rest is longer than nine tenths of a second, also
+/// where the machine is busy and the clock goes on.
 const MOST_COUNTED: u64 = 100_000_000;
 
-/// More than two texts are kept only while they take at most so many bytes, and one text more.
+/// A text beside two others or more is kept only if those take at most so many bytes.
 const SPARE_BYTES: u64 = 4_194_304;
 
 /// The texts of listings that are made and not yet written.
@@ -29,7 +29,7 @@ struct Unwritten {
 }
 
 impl Unwritten {
-    // None yet.
+    // No text is counted yet.
     fn new() -> Unwritten
         ensures { (result.texts ≡ 0) × (result.bytes ≡ 0) × (result.longest ≡ 0) }
     {
@@ -104,8 +104,8 @@ fn moment<R: Clock>(rt: &R) -> Option<u64> {
 }
 
 /// Bounds the listings that walk through tables, over all stations of a run. Only one station lists at a time, and then none for nine times as long:
-/// so the flusher, which waits for whoever reads the older copy, waits for a tenth of the time at most. And of listings that nobody
-/// reads two texts are kept, or as many as take 4 MiB and one text more.
+/// so the flusher, which waits for whoever reads the older copy, waits for a tenth of the time at most. Of the listings that nobody
+/// reads yet, two texts are kept, or as many as take 4 MiB and one text more.
 ///
 /// All threads change what it counts, so no contract says what `enter`, `add` and `remove` leave there: tests do.
 #[derive(Drop)]

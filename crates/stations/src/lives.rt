@@ -6,7 +6,7 @@ use sector_disk::Disk;
 use snapshots::Centre;
 use std::io::{Read, Write};
 
-/// A run of many stations goes on with the life of its disk, by a call for each round, and with a stop at any moment. So
+/// A run of many stations goes on with the life of its disk: each round is a call in the life, and a stop may come at any moment. So
 /// `recovery::lives::lasts` speaks of a disk that many runs of the program serve, one after another.
 ///
 /// This function does nothing: calling it gives its clause.

@@ -21,7 +21,7 @@ use std::sync::ledger::Ledger;
 pub struct Serving<'r, 'w, 't, R, V> {
     /// The runtime, which lets it wait.
     pub rt: &'r R,
-    /// What is shown how it goes on.
+    /// What sees how the run goes on.
     pub watch: &'w V,
     /// The text of its listing, which counts until it is written.
     pub text: &'t StationText<'t, 'r, R>,

@@ -192,14 +192,14 @@ struct Means<'r, R> {
     orders: bool,
 }
 
-// Whether a command may be given by a station that may give orders, or may not.
+// Whether a station may give a command: an order only if it may give orders.
 fn is_allowed(orders: bool, command: &Command<Global>) -> bool
     ensures { result ≡ is_allowed orders command.now }
 {
     orders || !is_order(&command.body)
 }
 
-// Submits a copy of a command, if it is of the session's station and no order that this may not give.
+// Submits a copy of a command, if it is of the session's station and the station may give it.
 fn submit<J: Centre, R: Wait>(
     means: &Means<'_, R>,
     session: &mut Session<J>,
@@ -221,7 +221,7 @@ fn submit<J: Centre, R: Wait>(
     }
 }
 
-// Whether all of these commands are of this station, and none is an order that it may not give.
+// Whether all of these commands are of this station, and the station may give each of them. `orders`: it may give orders.
 fn are_of(station: Station, orders: bool, commands: &[Command<Global>]) -> bool
     ensures { IsTrue result → All (λ c. (c.station ≡ station) × (is_allowed orders c ≡ true)) commands.now }
 {
@@ -237,8 +237,8 @@ fn are_of(station: Station, orders: bool, commands: &[Command<Global>]) -> bool
     true
 }
 
-// Room for the answers to commands of this station. `None` if memory runs out, or one is of another station, or an order that this
-// may not give.
+// Room for the answers to commands of this station. `None` if memory runs out, or a command is of another station, or is an order that
+// this station may not give.
 fn room_for<J: Centre, R>(
     means: &Means<'_, R>,
     station: Station,

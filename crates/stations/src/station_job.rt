@@ -36,7 +36,7 @@ pub(crate) struct Shared<'r, 'w, R: Wait, V: Watch> {
     pub(crate) refused: AtomicU64,
     /// What bounds their listings.
     pub(crate) gate: ListingGate,
-    /// Its figures.
+    /// The figures of the service.
     pub(crate) service: ServiceFigures,
     /// How often its disk was synced.
     pub(crate) syncs: &'w AtomicU64,
@@ -123,7 +123,7 @@ impl<'r, 'w, R: Wait, V: Watch> Shared<'r, 'w, R, V> {
         }
     }
 
-    // What the run of a station is given that may give orders or may not, with the most calls of its reader.
+    // What the run of a station is given: whether the station may give orders, the most calls of its reader, and its listing's text.
     fn serving<'t>(
         &'t self,
         orders: bool,

@@ -16,7 +16,7 @@ pub struct StationText<'g, 'r, R> {
 }
 
 impl<'g, 'r, R: Wait> StationText<'g, 'r, R> {
-    /// There is none yet.
+    /// No text is made yet.
     pub(crate) fn new(gate: &'g ListingGate, rt: &'r R) -> StationText<'g, 'r, R> {
         StationText {
             gate,

@@ -19,7 +19,7 @@ use std::sync::Wait;
 use std::thread;
 use std::thread::{Promise, PromisedHandle, Scope, Threads};
 
-/// The promise of a thread: what comes of it is what came of this job.
+/// The promise of a thread: what it returns came of this job.
 #[derive(Drop)]
 pub(crate) struct DoneOf<J: Centre, I: Read + Drop, O: Write + Drop> {
     job: Snapshot<Job<J, I, O>>,

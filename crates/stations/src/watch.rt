@@ -6,12 +6,12 @@ use registration::Station;
 
 /// What sees a run while it goes on. It is the gate of the flusher's rounds too.
 ///
-/// Each call is made in the station's thread. If no thread could be made for the station, `ended` and the calls for the end of its
+/// Each call below is made in the station's thread. If no thread could be made for the station, `ended` and the calls for the end of its
 /// session are made in the thread of the run, before its first round. No contract says which thread makes a call, nor which call comes
 /// before which; tests see the order.
 pub trait Watch: Gate {
     /// Entries of this station are about to be put into the queue: commands that came together, or the end of its session. A command
-    /// that is out of memory is not put.
+    /// is not put if memory runs out for it, or if the station may not submit it.
     fn before_entry(&self, station: Station);
 
     /// The entries were put into the queue, and all commands among them are answered.

@@ -92,7 +92,7 @@ type Finish = Arc<OnceLock<ExitCode>, Global>;
 /// How many bytes the stack of such a service has: as many as that of the program's first thread.
 const STACK: usize = 8 << 20;
 
-/// One for the program, and the same for the service.
+/// A place for the exit code: one owner of it for the program, and one for the service.
 fn new_finish(alloc: Global) -> Result<(Finish, Finish), AllocError> {
     let finish = Arc::new(alloc, OnceLock::new())?;
     let given = finish.clone()?;
@@ -340,8 +340,8 @@ fn open_for<'a, 'o, R: Files<File = File>>(
     }
 }
 
-/// A disk that is served, the stations that may give orders, and where the syncs of the disk are counted. Without any such station,
-/// each may.
+/// A disk that is served, the stations that may give orders, and where the syncs of the disk are counted. If no station is named, all
+/// may give orders.
 #[derive(Clone, Copy)]
 struct ServedDisk<'a, 'o> {
     disk: &'a str,
@@ -404,7 +404,8 @@ fn run_files<'a, R: Threads + Wait + Sync + Clock + Print + Eprint + Files<File 
     report(rt, &names, &served, &progress)
 }
 
-/// Serves the lines of each port as those of stations 1, 2 and so on, over the store. It is out of memory before the first line.
+/// Serves the lines of each port as those of stations 1, 2 and so on, over the store. Its one fault is out of memory, before the first
+/// line.
 fn serve_ports<
     'a,
     's,
@@ -490,7 +491,7 @@ fn serve_streams<'a, R: Threads + Wait + Sync + Clock + Eprint + Files<File = Fi
     serve_port(rt, host.alloc(), target, manner, port)
 }
 
-/// The same by this port.
+/// Serves station 1 over the register on a disk by this port. `Ok` has the exit status.
 fn serve_port<
     'a,
     R: Threads + Wait + Sync + Clock + Eprint + Files<File = File>,

@@ -11,6 +11,6 @@ use Rattle.image_rows.specs.Loading.{Loading}
 abbrev pub taken_at : View → Sector → Loading → Option Loading
 taken_at disk at loading = taken_from loading (sector disk.reads at)
 
--- the sector was read, and its row may come next
+-- The sector was read. On an honest disk its row may come next.
 abbrev pub HasReadGood : View → View → Sector → Loading → Type 0
 HasReadGood old new at loading = HasCalled old new (Read at ∷ []) × (old.honest → IsSome (taken_at old at loading))

@@ -12,27 +12,27 @@ use Rattle.console.specs.Reading.{Lacks, longest_line}
 abbrev pub HasNoEnd : List Byte → Type 0
 HasNoEnd text = Lacks 10 text
 
--- the bytes of the line so far are kept, if there are at most longest_line of them and a carriage return. Else only the flag
--- says that there are more
+-- The bytes of the line so far are kept if there are at most longest_line + 1 of them: the last may be a carriage return. Else the flag
+-- is set, and nothing is said of the bytes.
 abbrev pub Holds : List Byte → Bool → List Byte → Type 0
 Holds bytes true line = suc longest_line < length line
 Holds bytes false line = (bytes ≡ line) × (length line ≤ suc longest_line)
 
--- run has the last bytes of the line. It is kept with the bytes that came before; if none came, it is not kept
+-- `line` has the bytes that came before, and `run` the last ones. `run` is kept with those before; if none came before, `run` is not kept
 abbrev pub HoldsWith : List Byte → Bool → List Byte → List Byte → Type 0
 HoldsWith bytes long [] run = Holds bytes long []
 HoldsWith bytes long (b ∷ line) run = Holds bytes long (b ∷ line ++ run)
 
--- a line without its end
+-- the line, by whether a line feed ended it: if so, a carriage return at its end is dropped
 abbrev pub line_at_end : Bool → List Byte → List Byte
 line_at_end true line = strip_carriage_return line
 line_at_end false line = line
 
--- the line is kept as this; None of a line that is too long
+-- the line is kept as this text; `None` is only for a line that is too long
 abbrev pub KeepsLine : Option (List Byte) → List Byte → Type 0
 KeepsLine None line = nat_lt longest_line (length line) ≡ true
 KeepsLine (Some text) line = text ≡ line
 
--- the answer that is given to the line of this number: the desk's, or out of memory in place of a list
+-- `given` is what the line of this number gets for `answer`: that answer, or `memory` in place of a list
 abbrev pub IsGivenFor : {A : Type 0} → ℕ → Answer A → Answer A → Type 0
 IsGivenFor number answer given = (given ≡ answer) ⊎ ((is_list_answer answer ≡ true) × (given ≡ QueryOutage number Memory))

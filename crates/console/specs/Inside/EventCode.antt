@@ -17,7 +17,7 @@ by_kind (Wrote bytes) = inr (inr (inl bytes))
 by_kind ReadFailed = inr (inr (inr 0))
 by_kind WriteFailed = inr (inr (inr 1))
 
--- the event that is so by its kind
+-- the event of this kind: it undoes `by_kind`
 abbrev pub event_by_kind : Kinds → Event
 event_by_kind (inl bytes) = Read bytes
 event_by_kind (inr (inl text)) = Answered text

@@ -54,7 +54,7 @@ module _ {A W : Type 0} where
   abbrev pub outcome_at : Reached A W → Result Ran RunFault → Outcome W
   outcome_at reached result = record { result = result; world = reached.world; written = reached.written.bytes }
 
--- a run that began at start, when begun was written, has taken these bytes: some whole lines, which are answered, and a prefix of one more
+-- A run that began at `start`, with its writer at `begun`, has taken these bytes: some whole lines, which are answered, and a prefix of one more.
 pub record IsGoing {A W : Type 0} (rules : Rules A W) (start : Start W) (begun : Sent) (taken : List Byte) (now : Reached A W) : Type 0 where
   pub done : List (List Byte)
   pub answers : List (Answer A)
@@ -68,39 +68,40 @@ pub record IsGoing {A W : Type 0} (rules : Rules A W) (start : Start W) (begun :
   pub counted : now.progress.lines ≡ length done
   pub holds : Holds now.progress.current.bytes.items now.progress.current.long line
 
--- The run has ended with this result. The writer is now here, and the desk at t: what passed since it began is what is told of this input
+-- A run that began at `start`, with its writer at `begun`, has ended with this result. Its writer is at `now`, and its desk at `t`. `IsTold`
+-- holds of this input and of what has passed by the writer since the run began.
 abbrev pub HasEnded : {A W : Type 0} → Rules A W → Start W → Sent → List Byte → Sent → W → Result Ran RunFault → Type 0
 HasEnded {A = A} rules start begun input now t result =
     (events : List Event) × Follows begun events now × IsTold A rules start.speaker start.world t input events result
 
 -- what a run does from where it was
 module _ {A W : Type 0} (rules : Rules A W) (old : Reached A W) where
-  -- it has taken these bytes
+  -- the run has taken these bytes more
   abbrev pub GoesOn : List Byte → Reached A W → Type 0
   GoesOn bytes new = (start : Start W) (begun : Sent) (taken : List Byte) → IsGoing rules start begun taken old → IsGoing rules start begun (taken ++ bytes) new
 
-  -- it has ended with this fault within these bytes, with any bytes after them
+  -- the run has ended with this fault within these bytes, whatever bytes (`rest`) follow them
   abbrev pub StopsWithin : List Byte → RunFault → Reached A W → Type 0
   StopsWithin bytes fault new = (start : Start W) (begun : Sent) (taken rest : List Byte) → IsGoing rules start begun taken old →
       HasEnded rules start begun (taken ++ bytes ++ rest) new.written new.world (Err fault)
 
-  -- it has taken these bytes, before which nothing of the current line had come
+  -- the run has taken these bytes more, before which nothing of the current line had come
   abbrev pub GoesOnAtLine : List Byte → Reached A W → Type 0
   GoesOnAtLine bytes new =
       (start : Start W) (begun : Sent) (taken : List Byte) (going : IsGoing rules start begun taken old) → going.line ≡ [] → IsGoing rules start begun (taken ++ bytes) new
 
-  -- it has ended with this fault within these bytes, before which nothing of the current line had come
+  -- the run has ended with this fault within these bytes, before which nothing of the current line had come
   abbrev pub StopsAtLine : List Byte → RunFault → Reached A W → Type 0
   StopsAtLine bytes fault new =
       (start : Start W) (begun : Sent) (taken rest : List Byte) (going : IsGoing rules start begun taken old) → going.line ≡ [] →
       HasEnded rules start begun (taken ++ bytes ++ rest) new.written new.world (Err fault)
 
-  -- it had taken a piece of the text up to one place, and has now taken it up to a later one
+  -- the run had taken a piece of the text up to the place `at`, and has now taken the piece up to the place `next`
   abbrev pub GoesOnIn : List Byte → ℕ → ℕ → Reached A W → Type 0
   GoesOnIn piece at next new =
       (start : Start W) (begun : Sent) (taken : List Byte) → IsGoing rules start begun (taken ++ take at piece) old → IsGoing rules start begun (taken ++ take next piece) new
 
-  -- it had taken a piece of the text up to this place, and has ended with this fault within the rest of it
+  -- the run had taken a piece of the text up to the place `at`, and has ended with this fault within the rest of the piece
   abbrev pub StopsIn : List Byte → ℕ → RunFault → Reached A W → Type 0
   StopsIn piece at fault new =
       (start : Start W) (begun : Sent) (taken rest : List Byte) → IsGoing rules start begun (taken ++ take at piece) old →
@@ -116,11 +117,11 @@ module _ {A : Type 0} where
   IsCounted old given new =
       (new.lines ≡ old.lines + 1) × (new.troubled ≡ (old.troubled || is_trouble given)) × Holds new.current.bytes.items new.current.long []
 
-  -- an answer is given and written, and is counted
+  -- the answer, or `memory` in place of a list, is given, written and counted
   abbrev pub Sends : Progress A → Sent → Answer A → Progress A → Sent → Type 0
   Sends old held answer new now = (given : Answer A) × IsGivenFor (old.lines + 1) answer given × Passes held now [] (text given) [] × IsCounted old given new
 
-  -- some of its text is left; so many lines came before
+  -- The answer, or `memory` in place of a list, is given, and `left` is not written: the rest of its text. `count` lines came before.
   abbrev pub SendsPart : ℕ → Sent → Answer A → Sent → Type 0
   SendsPart count held answer now = (given : Answer A) × (left : List Byte) × IsGivenFor (count + 1) answer given × Passes held now [] (text given) left
 
@@ -129,7 +130,7 @@ abbrev pub FitsPiece : Piece → ℕ → Type 0
 FitsPiece End room = Unit {0}
 FitsPiece (Bytes n) room = n ≤ room
 
--- nothing was left, and nothing was read; or the first n bytes of the buffer were read, and the rest is left
+-- a call of a reader that had `input` left: at the end, `input` was empty; else the first n bytes of the buffer were read, and the rest is `left`
 abbrev pub IsPiece : Piece → List Byte → List Byte → Option (List Byte) → Type 0
 IsPiece End buffer input left = (input ≡ []) × (left ≡ Some [])
 IsPiece (Bytes n) buffer input left = (rest : List Byte) × (left ≡ Some rest) × (input ≡ take n buffer ++ rest)

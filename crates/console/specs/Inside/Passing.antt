@@ -10,17 +10,17 @@ pub record Sent : Type 0 where
   pub events : List Event
   pub failures : ℕ
 
--- those of an output, by the bytes of its writer
+-- the bytes, events and failures of an output; `contents` gives the bytes of its writer
 abbrev pub sent_by : {W G : Type 0} → (W → Option (List Byte)) → Output W G → Sent
 sent_by contents output = record { bytes = contents output.writer.now; events = output.events.list; failures = output.failures.now }
 
--- these events come next; if the bytes of the writer are known, they have what is written at these events after them; and the ledger counts
--- the failures of the writer among them
+-- These events come next. If the bytes of the writer are known, what is written at these events follows those bytes. The ledger counts the
+-- failures of the writer among these events.
 abbrev pub Follows : Sent → List Event → Sent → Type 0
 Follows old events new = (new.events ≡ old.events ++ events) × ((held : List Byte) → old.bytes ≡ Some held → new.bytes ≡ Some (held ++ written_by events))
     × (new.failures ≡ old.failures + write_failures events)
 
--- only what waits is written, first come first: from the text that waits before these events to the text that waits after them
+-- Only text that waits is written, in order. `waiting` waits before these events, and `left` after them. An answer waits once it is given.
 abbrev pub Leaves : List Byte → List Event → List Byte → Type 0
 Leaves waiting [] left = left ≡ waiting
 Leaves waiting (Read bytes ∷ events) left = Leaves waiting events left
@@ -36,6 +36,6 @@ pub record Passes (old new : Sent) (waiting answered left : List Byte) : Type 0 
   pub answers : answered_by events ≡ answered
   pub only : Leaves waiting events left
 
--- events up to a failure of the writer: only a prefix of these answers was given, and some of their text may be left
+-- The answers that were given have the text `made`, a prefix of `answered`. Of that text, `left` is not written.
 abbrev pub PassesPart : Sent → Sent → List Byte → Type 0
 PassesPart old new answered = (made : List Byte) × (missing : List Byte) × (left : List Byte) × (answered ≡ made ++ missing) × Passes old new [] made left

@@ -29,7 +29,7 @@ module _ {A : Type 0} where
   answer_for c (Ok reply) = answer.Replied c.sequence reply
   answer_for c (Err word) = answer.CommandOutage c.sequence word
 
-  -- those to several
+  -- the answers to several commands, in order; they end with the shorter of the two lists
   abbrev pub answers_for : List (Command A) → List (Result (Reply A) Outage) → List (Answer A)
   answers_for [] replies = []
   answers_for (c ∷ commands) [] = []

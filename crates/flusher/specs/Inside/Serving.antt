@@ -54,7 +54,7 @@ module _ {J : Type 0} where
       commands committed.outcomes.items old new
 
 module _ {J D : Type 0} {g : Ghosts D} where
-  -- the store is sound, its register is what is durable makes, and all of that is published
+  -- the store is sound, its register is what the durable commands make, and all of these are published
   pub record IsReady (base : State) (p : Publication J) (c : Committer D g) : Type 0 where
     pub caught_up : IsCaughtUp p
     pub history : IsHistory base (durable_of p)
@@ -62,8 +62,8 @@ module _ {J D : Type 0} {g : Ghosts D} where
     pub sound : c.store.broken ≡ false
 
   module _ (p : Publication J) (c : Committer D g) (q : Publication J) (d : Committer D g) (room : Room) where
-    -- What is published begins what is durable, and the register of a sound store is what that makes. If the disk failed in the commit,
-    -- nothing became durable.
+    -- What is published is a prefix of what is durable. A sound store's register is what the durable commands make. If the disk failed in
+    -- the commit, nothing became durable.
     pub record IsAfterCommit (base : State) : Type 0 where
       pub prefix : IsPrefix q.publisher.published (durable_of q)
       pub history : IsHistory base (durable_of q)
@@ -71,7 +71,8 @@ module _ {J D : Type 0} {g : Ghosts D} where
       pub under_way : d.store.broken ≡ true
           → HasBroken (commands_in room.batch.items) (store_view c.store) (store_view d.store) × (durable_of q ≡ durable_of p)
 
-    -- the commands were served; before that all was published in the same round
+    -- The commands were served (`HasServed`), whatever list `seen` was published when the round began. Before they were served the same round
+    -- published all that was durable (`IsReady`).
     abbrev pub HasServedFrom : (D → View) → State → Vec (AnswerSender Sent) Global → Vec (AnswerSender Sent) Global → Type 0
     HasServedFrom view base old new = (seen : List (Asked Global))
         → HasServed base (view d.store.disk).moment (progress seen (durable_of p) (store_view c.store) (tries c.attempts p.publisher.refusals))

@@ -13,7 +13,7 @@ use Rattle.gated_journal.specs.Twice.{IsTornTwiceImage}
 use Rattle.gated_journal.specs.declared.both.Run.{Run}
 
 -- Two runs of writes: n sectors from `at` on with the bytes of `bytes`, and then m sectors from `to` on with those of `more`.
--- A stop may leave anything in these sectors, and in all others what it could leave before. At `Ok` they read as the bytes.
+-- A stop may leave anything in these sectors, and in all others what it could leave before. At `Ok` these sectors read as the bytes.
 pub record HasFilledTwice (old new : View) (at : Sector) (n : Sectors) (bytes : ℕ → List Byte) (to : Sector) (m : Sectors)
     (more : ℕ → List Byte) (result : Result Unit DiskError) : Type 0 where
   pub honest : new.honest
@@ -32,8 +32,8 @@ pub record Runs (old new : View) (made : List Call) (result : Result Unit DiskEr
   pub keeps : KeepsDisk old new (IsErr result)
   pub in_range : IsErrOf result OutOfRange → ⊥
 
--- What two runs of writes do to the disk (`HasFilledTwice`): first that of x, then that of y. A run writes the first sectors of
--- its text, as many as it states, from its sector `at` on.
+-- The runs x and y are written, x first, and do to the disk what `HasFilledTwice` states. A run writes the first `sectors` sectors
+-- of its text, from the disk's sector `at` on.
 abbrev pub AreFilled : View → View → Run → Run → Result Unit DiskError → Type 0
 AreFilled old new x y result = HasFilledTwice old new x.at x.sectors (data_sector x.text.now) y.at y.sectors (data_sector y.text.now) result
 

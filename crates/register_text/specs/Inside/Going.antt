@@ -13,7 +13,7 @@ use Rattle.register_text.specs.declared.loading.Reading.{Reading}
 use Rattle.register_text.specs.declared.load_fault.LoadFault.{LoadFault}
 use Rattle.register_text.specs.declared.load_fault.LoadFault.TheVariants as load
 
--- what is kept of a line whose line feed has not come
+-- these bytes may be kept of a line whose line feed has not come
 abbrev pub IsKept : List Byte → Type 0
 IsKept line = HasNoFeed line × (length line ≤ longest_line)
 

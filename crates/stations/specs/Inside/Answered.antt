@@ -26,7 +26,7 @@ module _ {J : Type 0} (base : State) where
     pub ends : EndsFor turns (reader_events result.2) (writer_events result.2) result.1
     -- the session that comes back
     pub goes_on : GoesOnFrom orders (beginning_of session) result.0
-    -- out of memory it did nothing
+    -- if the run was out of memory, it left the session unchanged
     pub memory : IsErrOf result.1 NoMemory → result.0 ≡ session
 
   -- the session of a job answered the lines of its port
