@@ -23,10 +23,14 @@ BUILD, TIME = 'packaging/build', 1_000_000_000
 PROGRAM, USER, PAGE = 'usr/bin/tetra-switch', 'usr/lib/sysusers.d/tetra-switch.conf', 'usr/share/man/man1/tetra-switch.1.gz'
 DESK, DOCUMENTS, UNITS = f'{PROGRAM}-desk', 'usr/share/doc/tetra-switch', 'usr/lib/systemd/system'
 SETTINGS, CHANGES, COPYRIGHT = (f'{DOCUMENTS}/{name}' for name in ('examples/settings.toml', 'changelog.gz', 'copyright'))
+EXAMPLES = 'desk.py', 'forget.py', 'backup.sh', 'serve.sh', 'serve_socat.sh', 'tetra-switch-standby.service'
+PAGES = 'operate.md', 'decisions.md', 'assumptions.md', 'glossary.md', *(f'formats/{name}.md' for name in ('lines', 'pdus', 'disk', 'text'))
+# Where a link of a page leads, and those that only the sources have
+LINK, SOURCES = re.compile(r'\]\(([^)#]+)'), ('/crates/', '/proofs/')
 # Files that are as in the repository, and packed ones
 SAME = {DESK: 'examples/desk.py', SETTINGS: 'examples/settings.toml', USER: 'packaging/sysusers.conf', COPYRIGHT: 'packaging/copyright',
-        **{f'{DOCUMENTS}/examples/{name}': f'examples/{name}' for name in ('desk.py', 'forget.py', 'backup.sh')},
-        **{f'{DOCUMENTS}/{name}': f'docs/{name}' for name in ('operate.md', 'formats/lines.md', 'formats/pdus.md')}}
+        **{f'{DOCUMENTS}/examples/{name}': f'examples/{name}' for name in EXAMPLES},
+        **{f'{DOCUMENTS}/docs/{name}': f'docs/{name}' for name in PAGES}}
 PACKED = {PAGE: 'docs/tetra-switch.1', CHANGES: 'packaging/changelog'}
 # Units, of which each names the program or the desk once
 UNIT_NAMES = [f'tetra-switch{name}' for name in ('.service', '-expire.service', '-expire.timer')]
@@ -147,6 +151,14 @@ def has_these_files(package):
         compare(f'what {name} starts', re.findall(rb'^[^#\n]*(/bin/tetra-switch\S*)', package.bytes(f'{UNITS}/{name}'), re.M), STARTED[name])
 
 
+def links_lead_to_files(package):
+    """Each link of a page leads to a file of the package, but for those that only the sources have."""
+    pages = [package.root / DOCUMENTS / 'docs' / name for name in PAGES]
+    links = [(page, link) for page in pages for link in LINK.findall(page.read_text()) if '://' not in link and not any(it in f'/{link}' for it in SOURCES)]
+    compare('lost links', [f'{page.name}: {link}' for page, link in links if not (page.parent / link).is_file()], [])
+    compare('there are links', len(links) > len(PAGES), True)
+
+
 def says_whose_it_is(package):
     """The changelog begins with this version; the copyright has an owner and says that no licence is chosen."""
     told = said(0, 'dpkg-parsechangelog', '-l', TOP / 'packaging/changelog', '-S', 'Version')[0].decode().strip()
@@ -227,9 +239,9 @@ def units_are_verified(package):
 
 CASES = [
     (takes_no_other_words,), (needs_dpkg_deb,), (builds, 'dpkg-deb'), (refuses, 'dpkg-deb'), (builds_the_same_again, 'dpkg-deb', 'git'),
-    (needs_the_newest_library, 'dpkg-deb'), (has_these_files, 'dpkg-deb'), (says_whose_it_is, 'dpkg-deb', 'dpkg-parsechangelog'), (has_these_fields, 'dpkg-deb'),
-    (installs, 'dpkg-deb', 'dpkg', 'systemd-sysusers'), (answers, 'dpkg-deb'), (page_is_shown, 'dpkg-deb', 'man'),
-    (page_is_well_formed, 'dpkg-deb', 'groff'), (units_are_verified, 'dpkg-deb', 'systemd-analyze'),
+    (needs_the_newest_library, 'dpkg-deb'), (has_these_files, 'dpkg-deb'), (links_lead_to_files, 'dpkg-deb'),
+    (says_whose_it_is, 'dpkg-deb', 'dpkg-parsechangelog'), (has_these_fields, 'dpkg-deb'), (installs, 'dpkg-deb', 'dpkg', 'systemd-sysusers'),
+    (answers, 'dpkg-deb'), (page_is_shown, 'dpkg-deb', 'man'), (page_is_well_formed, 'dpkg-deb', 'groff'), (units_are_verified, 'dpkg-deb', 'systemd-analyze'),
 ]
 
 
