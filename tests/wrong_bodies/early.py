@@ -1,8 +1,9 @@
 #!/usr/bin/env python3
 """Tries wrong bodies while `rt ci` still proves the crates above: those of each crate that tests/refused_edits.txt lacks, once `rt ci` has
-proved it. It does so as `tests/run wrong_bodies` does, but tries the batches of a crate side by side. It keeps the verdict there if all are
-refused, so that `tests/run wrong_bodies` need not try them again, and judges nothing itself. As long as `rt ci` works it takes one crate
-at a time, by two checks, and only where memory is free; then all that are left. It ends in the processor minutes that it took.
+proved it. It does so as `tests/run wrong_bodies` does, but tries the batches of a crate side by side, and in three rows the edits that go
+alone. It keeps the verdict there if all are refused, so that `tests/run wrong_bodies` need not try them again, and judges nothing itself. As
+long as `rt ci` works it takes one crate at a time, by two checks, and only where memory is free; then all that are left. It ends in the
+processor minutes that it took.
 Usage: tests/run early ENDED    at the top of the repository; the file ENDED is made once `rt ci` has ended"""
 import contextlib
 import os
@@ -19,7 +20,8 @@ from kit import rt, rtlib
 
 # How many checks it runs beside `rt ci`, and after it; how much free memory a crate needs, in bytes; how long it waits for the next, in seconds
 BESIDE, AFTER, ROOM, PAUSE = 2, 6, 9e9, 20
-CRATES = 3
+# How many crates it takes at a time, and in how many rows it tries the edits of a crate that go alone
+CRATES, ALONE = 3, 3
 
 
 def is_proved(crate):
@@ -68,6 +70,10 @@ class Early:
             with self.slots, tempfile.TemporaryDirectory(prefix="wrong-bodies-") as kept:
                 return wrong_bodies.tried(crate, batch, kept)
 
+        def try_alone(few):
+            with self.slots, tempfile.TemporaryDirectory(prefix="wrong-bodies-") as kept:
+                return dict(zip(few, wrong_bodies.tried_alone(crate, few, kept)))
+
         for _ in range(2):
             batches = wrong_bodies.grouped([it for it in edits if it.file not in said])
             with ThreadPoolExecutor(AFTER) as pool:
@@ -75,8 +81,9 @@ class Early:
                     said.update({file: (True, f"refused, as it must be: {text[:160]}") for file, text in found.items()})
         rest = [it for it in files if it not in said]
         print(f"rt: {crate.name}: alone: {' '.join(map(os.path.basename, rest)) or 'none'}", flush=True)
-        with self.slots, tempfile.TemporaryDirectory(prefix="wrong-bodies-") as kept:
-            said.update(zip(rest, wrong_bodies.tried_alone(crate, rest, kept)))
+        with ThreadPoolExecutor(ALONE) as pool:
+            for found in pool.map(try_alone, filter(None, (rest[k::ALONE] for k in range(ALONE)))):
+                said.update(found)
         return [(said[it][0], f"{crate.name}/{os.path.basename(it)}: {said[it][1]}") for it in files]
 
     def keep(self, crate, answers):
