@@ -51,7 +51,7 @@ use Rattle.stations.specs.Done.{EndsAs, IsDone, IsRunOf, IsToldOf, speaker_of}
 use Rattle.stations.specs.Flushed.{HasFlushed}
 use Rattle.stations.specs.Orders.{has_order, may}
 use Rattle.stations.specs.declared.station_run.StationRun.{StationRun}
-use Rattle.stations.specs.Served.{HasServed, IsBorneOut, new_view, speaker_at}
+use Rattle.stations.specs.Served.{HasServedStations, IsBorneOut, new_view, speaker_at}
 use Rattle.stations.proofs.Lines.{lines_borne}
 use Rattle.stations.proofs.Ordered.{sublist_without}
 use Rattle.stations.proofs.Written.{written_after}
@@ -273,7 +273,7 @@ module _ {J I O : Type 0} (base : State) (unread : I → Option (List Byte)) (wr
         (opened.broken ≡ false → HasBeenHonest disk opened → IsStoredIn Global disk opened) → n ≡ length ports → IsNewFlusher n opened first →
         HasFlushed disk base first last → store ≡ last.store →
         (ended : List (Ended J)) (runs : List (StationRun I O)) → ended ≡ map (λ (d : Done J I O). d.ended) done → runs ≡ map given_of done →
-        IsClosed base last ended → HasServed disk J base orders turns unread written opened ports store runs
+        IsClosed base last ended → HasServedStations disk J base orders turns unread written opened ports store runs
     has_served disk opened store n whole is_kept count begun flushed store_is ended runs is_ended is_runs closed =
         let jobs_length : length jobs ≡ length ports = sym (map_length (λ (x : Job J I O). x.port) jobs) ∙ ap length with_ports in
         let sound_first : first.store.broken ≡ false = ap (λ (s : StoreView Global D). s.broken) begun.store ∙ whole in

@@ -103,17 +103,17 @@ ReadsAfter base old (Err Epochs) new = ⊥
 
 module _ (J : Type 0) (base : State) where
   -- nothing is sent or received, and all that is seen is reached
-  abbrev pub OnlyReads : AtSession → AtSession → Type 0
-  OnlyReads s t =
+  abbrev pub SessionOnlyReads : AtSession → AtSession → Type 0
+  SessionOnlyReads s t =
       (t.station ≡ s.station) × (t.view.sent ≡ s.view.sent) × (t.view.received ≡ s.view.received) × (t.view.reached ≡ length t.view.seen)
 
   -- a query is answered
   abbrev pub Answers : AtSession → Query → Result (QueryAnswer Global) Outage → AtSession → Type 0
-  Answers s q result t = OnlyReads s t × AnswersAfter base s.view.seen q result t.view.seen
+  Answers s q result t = SessionOnlyReads s t × AnswersAfter base s.view.seen q result t.view.seen
 
   -- a register is read for a listing
-  abbrev pub Reads : AtSession → Result State Outage → AtSession → Type 0
-  Reads s result t = OnlyReads s t × ReadsAfter base s.view.seen result t.view.seen
+  abbrev pub SessionReads : AtSession → Result State Outage → AtSession → Type 0
+  SessionReads s result t = SessionOnlyReads s t × ReadsAfter base s.view.seen result t.view.seen
 
 -- `may_order` says whether the session's station may give orders
 module _ (J : Type 0) (base : State) (may_order : Bool) where
@@ -124,4 +124,4 @@ module _ (J : Type 0) (base : State) (may_order : Bool) where
 
   -- the rules of a session with a centre that was opened over this register
   abbrev pub of_session : Rules Global AtSession
-  of_session = record { applies = Applies; answers = Answers J base; reads = Reads J base }
+  of_session = record { applies = Applies; answers = Answers J base; reads = SessionReads J base }

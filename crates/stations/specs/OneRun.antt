@@ -37,7 +37,7 @@ IsWholeBy J base may_order s before t after =
 module _ {J I O L F G : Type 0} where
   -- The session answered lines from this input to this output, by at most so many calls of the reader. Given are the session, the input and
   -- the output before the run, and the last two after it; the result is the session after it, and how it ended.
-  pub record HasAnswered (base : State) (unread : I → Option (List Byte)) (written : O → Option (List Byte)) (may_order : Bool) (turns : ℕ)
+  pub record HasAnsweredLines (base : State) (unread : I → Option (List Byte)) (written : O → Option (List Byte)) (may_order : Bool) (turns : ℕ)
       (session : Session J) (input input_now : Input I L F) (output output_now : Output O G) (result : Session J × Result Ran RunFault) : Type 0 where
     -- how the lines were answered, and what the session is then
     pub answers : IsRunBy J base may_order session (unread input.reader.now) (written output.writer.now) result.1 result.0 (written output_now.writer.now)

@@ -95,7 +95,7 @@ pub record IsWrittenAfter {D I O : Type 0} (disk : D → View) (J : Type 0) (bas
 
 -- Stations 1, 2 and so on were served over a store that was opened, each with its port. Given are which of them may give orders, and the most
 -- calls of each reader. This store and these runs came of it.
-pub record HasServed {D I O : Type 0} (disk : D → View) (J : Type 0) (base : State) (orders : Orders) (turns : ℕ) (unread : I → Option (List Byte)) (written : O → Option (List Byte))
+pub record HasServedStations {D I O : Type 0} (disk : D → View) (J : Type 0) (base : State) (orders : Orders) (turns : ℕ) (unread : I → Option (List Byte)) (written : O → Option (List Byte))
     (opened : StoreView Global D) (ports : List (Port I O)) (store : StoreView Global D) (runs : List (StationRun I O)) : Type 0 where
   -- a new flusher of the store did rounds until it had taken the end of each session, and none after; what is durable then is a history, and
   -- the register of a sound store is what it makes of the base
