@@ -4,7 +4,7 @@
 
 mod job;
 mod listing;
-mod listing_gate;
+mod listing_bound;
 pub mod lives;
 mod many_stations;
 mod one_station;

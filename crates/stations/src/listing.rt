@@ -4,7 +4,7 @@ ghost use Rattle.listings.specs.Texts.{is_line};
 ghost use Rattle.stations.specs.Listings.{takes_turn};
 ghost use Rattle.stations.specs.Inside.Listing.{AddsListing};
 
-use crate::listing_gate::Turn;
+use crate::listing_bound::Turn;
 use crate::session_desk::Began;
 use crate::station_text::StationText;
 use desk::Outage;
@@ -54,7 +54,7 @@ fn read<K: Began, J: Centre>(
 fn may_keep<R: Wait>(text: &StationText<'_, '_, R>, room: usize, out: &Vec<u8, Global>) -> bool
     ensures { result ≡ false → room < vec_len out.now }
 {
-    out.len() <= room || text.keep(out.len())
+    out.len() <= room || text.reserve(out.len())
 }
 
 // Drops what was added to a text, and the memory that this took.

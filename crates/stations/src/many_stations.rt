@@ -13,7 +13,7 @@ ghost use Rattle.stations.specs.Many.{CameOfServing};
 ghost use Rattle.stations.specs.Orders.{may};
 
 use crate::job::{Done, Job};
-use crate::listing_gate::ListingGate;
+use crate::listing_bound::ListingBound;
 use crate::orders::Orders;
 use crate::port::Port;
 use crate::round_gate::since;
@@ -330,7 +330,7 @@ pub fn run_many<
                 watch,
                 alloc,
                 refused: AtomicU64::new(0),
-                gate: ListingGate::new(stations),
+                bound: ListingBound::new(stations),
                 service,
                 syncs,
                 start,

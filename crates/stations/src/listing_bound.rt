@@ -62,7 +62,7 @@ impl Unwritten {
     }
 
     // Counts a text of so many bytes, if one more may be kept, and returns whether it may.
-    fn keep(&mut self, bytes: u64) -> bool
+    fn add_if_room(&mut self, bytes: u64) -> bool
         ensures may { IsTrue result ↔ MayKeep self.old.texts self.old.bytes }
         ensures counted { result ≡ true
             → (self.new.texts ≡ min (self.old.texts + 1) (2 ^ 64 - 1)) × (self.new.bytes ≡ min (self.old.bytes + bytes) (2 ^ 64 - 1)) }
@@ -109,7 +109,7 @@ fn moment<R: Clock>(rt: &R) -> Option<u64> {
 ///
 /// All threads change what it counts, so no contract says what `enter`, `add` and `remove` leave there: tests do.
 #[derive(Drop)]
-pub struct ListingGate {
+pub struct ListingBound {
     /// Whether other stations are served beside one that lists. Else nobody waits.
     is_shared: bool,
     /// The moment from which the next listing may begin. Whoever lists has the lock.
@@ -126,12 +126,12 @@ pub(crate) struct Turn<'g> {
     began: Option<u64>,
 }
 
-impl ListingGate {
-    /// The gate of a run of this many stations.
-    pub(crate) fn new(stations: usize) -> ListingGate
+impl ListingBound {
+    /// The bound of a run of this many stations.
+    pub(crate) fn new(stations: usize) -> ListingBound
         ensures { IsTrue result.is_shared ↔ (1 < stations) }
     {
-        ListingGate {
+        ListingBound {
             is_shared: stations > 1,
             opens: Mutex::new(0),
             unwritten: Mutex::new(Unwritten::new()),
@@ -156,7 +156,7 @@ impl ListingGate {
     /// Counts a text of so many bytes until `remove`, if it may be kept. It returns whether it may.
     pub(crate) fn add<R: Wait>(&self, rt: &R, bytes: u64) -> bool {
         let mut guard = self.unwritten.lock(rt);
-        guard.keep(bytes)
+        guard.add_if_room(bytes)
     }
 
     /// A text of so many bytes is written, or dropped.
