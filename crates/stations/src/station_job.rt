@@ -219,7 +219,7 @@ pub(crate) fn serve<J: Centre, R: Wait + Clock, V: Watch, I: Read + Drop, O: Wri
     let (session, run) = run_port(shared, job);
     let station = session.station();
     let watch = shared.watch;
-    watch.ended(station, &run.ran);
+    watch.after_run(station, &run.ran);
     watch.before_entry(station);
     let ended = session.finish(shared.rt);
     watch.after_entry(station);
