@@ -1,6 +1,6 @@
 -- A run of many stations in the life of its disk.
 use Rattle.std.specs.declared.alloc.Global.{Global}
-use Rattle.std.proofs.Common.{◌≡◌, ℕ, false, List, ap, sym, ◌∙◌, subst}
+use Rattle.std.proofs.Common.{◌≡◌, ℕ, false, inr, List, ap, sym, ◌∙◌, subst}
 use mathlib.Core.List.{nil-sublist}
 use Rattle.identity.specs.Numbers.{Byte}
 use Rattle.sector_disk.specs.Disk.{IsSound, View}
@@ -32,4 +32,4 @@ module _ {D I O : Type 0} (view : D → View) (sound : (disk : D) → (view disk
       lived view base sound from before first (subst (λ (s : StoreView Global D). IsLife Global view from before (Open s)) (sym at) life) served.last
       (λ sound. ap (λ (s : StoreView Global D). s.register) at ∙ made ∙ ap (after base) none)
       (subst (λ (d : List (Asked Global)). AreInOrder d first.taker.taken) none (nil-sublist (commands_among first.taker.taken)))
-      (served.lasting (life_honest view from before (Open opened) life) stored)
+      (served.lasting (inr (life_honest view from before (Open opened) life, stored)))

@@ -1,5 +1,5 @@
 -- What a run of many stations does.
-use Rattle.std.specs.Prelude.{◌≡◌, ◌∷◌, ◌++◌, ◌+◌, ◌≤◌, ℕ, Contains, IsErrOf, List, [], length, Option, slice_get, Some, true, false}
+use Rattle.std.specs.Prelude.{◌≡◌, ◌⊎◌, ◌∷◌, ◌++◌, ◌+◌, ◌≤◌, ℕ, Contains, IsErrOf, List, [], length, Option, slice_get, Some, true, false}
 use Rattle.std.specs.List.{AllByRecursion}
 use Rattle.std.specs.Str.Lines.{lines}
 use Rattle.std.specs.declared.alloc.Global.{Global}
@@ -93,6 +93,11 @@ pub record IsWrittenAfter {D I O : Type 0} (disk : D → View) (J : Type 0) (bas
   -- opens to a list of commands that bears it out
   pub durable : AreRepliedTo (IsReplyDurable disk base last view.received) speaker done answers
 
+-- The register is on an honest disk when the run begins. Either the disk was honest when the store was opened and is when the run begins: then
+-- the register is on it (`kept` of `HasServedStations`). Or the disk is honest, and the register is known to be on it, as in a life of the disk.
+abbrev pub IsOnDisk : {D : Type 0} → (D → View) → StoreView Global D → Type 0
+IsOnDisk disk opened = HasBeenHonest disk opened ⊎ ((disk opened.disk).honest × IsStoredIn Global disk opened)
+
 -- Stations 1, 2 and so on were served over a store that was opened, each with its port. Given are which of them may give orders, and the most
 -- calls of each reader. This store and these runs came of it.
 pub record HasServedStations {D I O : Type 0} (disk : D → View) (J : Type 0) (base : State) (orders : Orders) (turns : ℕ) (unread : I → Option (List Byte)) (written : O → Option (List Byte))
@@ -113,13 +118,12 @@ pub record HasServedStations {D I O : Type 0} (disk : D → View) (J : Type 0) (
   pub kept : HasBeenHonest disk opened → IsStoredIn Global disk opened
   -- if the register is on an honest disk then, each image of the disk opens to what is durable in the end, or to this and what was under way
   -- when the disk failed
-  pub stored : (disk opened.disk).honest → IsStoredIn Global disk opened → IsStoredFor disk base last
+  pub stored : IsOnDisk disk opened → IsStoredFor disk base last
   -- After a stop at any moment of the run the disk opens to no less than was durable at first. It opens to no more than is durable at last, or
   -- if the disk has failed, than this and what was under way.
-  pub any_moment : (disk opened.disk).honest → IsStoredIn Global disk opened
-      → LeavesOnly (disk opened.disk) (disk store.disk) (OpensBetween base first last)
+  pub any_moment : IsOnDisk disk opened → LeavesOnly (disk opened.disk) (disk store.disk) (OpensBetween base first last)
   -- after a stop since the end of a round the disk opens to no less than was durable then
-  pub lasting : (disk opened.disk).honest → IsStoredIn Global disk opened → AreLasting disk base first last
+  pub lasting : IsOnDisk disk opened → AreLasting disk base first last
   -- only a failure of the disk breaks the store
   pub later : (disk opened.disk).failures ≤ (disk store.disk).failures
   pub failed : store.broken ≡ true → HasFailed (disk opened.disk) (disk store.disk)
@@ -145,7 +149,7 @@ pub record HasServedStations {D I O : Type 0} (disk : D → View) (J : Type 0) (
       → slice_get ports k ≡ Some port → slice_get runs k ≡ Some run → slice_get views k ≡ Some view
       → IsToldOf J base (speaker_at orders k) (unread port.reader) (written port.writer) run.passed new_view view (written run.writer) run.ran
   -- and each reply that was answered was on the disk before
-  pub synced : (disk opened.disk).honest → IsStoredIn Global disk opened → (k : ℕ) (port : Port I O) (run : StationRun I O) (view : SessionView)
+  pub synced : IsOnDisk disk opened → (k : ℕ) (port : Port I O) (run : StationRun I O) (view : SessionView)
       → slice_get ports k ≡ Some port → slice_get runs k ≡ Some run → slice_get views k ≡ Some view
       → IsWrittenAfter disk J base last (speaker_at orders k) view run.passed (unread port.reader) (written port.writer) (written run.writer)
   -- each session is borne out by what is durable
@@ -154,5 +158,4 @@ pub record HasServedStations {D I O : Type 0} (disk : D → View) (J : Type 0) (
   pub orderless : (k : ℕ) (view : SessionView) → slice_get views k ≡ Some view → may orders (k + 1) ≡ false
       → (has_order (commands_among view.sent) ≡ false) × (has_order (of_station (k + 1) last.durable) ≡ false)
   -- each answer that a session received was durable before it was sent: a stop at any moment since leaves what bears it out
-  pub durable : (disk opened.disk).honest → IsStoredIn Global disk opened
-      → (k : ℕ) (view : SessionView) → slice_get views k ≡ Some view → AllByRecursion (WasDurable disk base last) view.received
+  pub durable : IsOnDisk disk opened → (k : ℕ) (view : SessionView) → slice_get views k ≡ Some view → AllByRecursion (WasDurable disk base last) view.received
