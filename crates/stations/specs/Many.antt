@@ -11,7 +11,7 @@ use Rattle.stations.specs.declared.many_stations.Many.{Many}
 use Rattle.stations.specs.declared.orders.Orders.{Orders}
 use Rattle.stations.specs.declared.port.Port.{Port}
 
--- This came of serving the stations of these ports over a store (`HasServedStations`): the store, and a run for each port.
+-- The stations of these ports were served over a store (`HasServedStations`). What came of it is the store, and a run for each port.
 abbrev pub CameOfServing : {D I O : Type 0} {g : Ghosts D} → (D → View) → (J : Type 0) → State → Orders → ℕ → (I → Option (List Byte)) → (O → Option (List Byte))
     → StoreView Global D → List (Port I O) → Many D I O g → Type 0
 CameOfServing disk J base orders turns unread written opened ports many =

@@ -57,10 +57,10 @@ pub struct Many<D: Disk, I, O: Drop> {
     pub runs: Vec<StationRun<I, O>>,
 }
 
-/// What comes back where no station was served.
+/// What comes back if no station was served.
 #[derive(Drop)]
 pub struct Unserved<D: Disk, I: Drop, O: Drop> {
-    /// Why none was.
+    /// Why no station was served.
     pub fault: CentreFault,
     /// The store, as it was.
     pub store: Store<Global, D>,
@@ -89,7 +89,7 @@ struct PortTerms<'o> {
     turns: u32,
 }
 
-/// Room for what comes of this many stations.
+/// The lists of a run of this many stations, still empty, with room for each station.
 #[derive(Drop)]
 struct RunLists<J: Centre, I: Read + Drop, O: Write + Drop> {
     stations: usize,
@@ -118,7 +118,7 @@ fn thread_room<J: Centre, I: Read + Drop, O: Write + Drop>(
     })
 }
 
-// Room for this many stations.
+// The lists of a run of this many stations.
 fn room_for<J: Centre, I: Read + Drop, O: Write + Drop>(
     alloc: Global,
     stations: usize,
@@ -297,7 +297,7 @@ pub fn run_many<
     requires sound { store.broken ≡ false }
     requires centre { (terms.log.seen.book ≡ J.book) × (store.register ≡ J.base) }
 
-    // How each station's lines were answered and why its run ended, and what became of the store. A station that may give no orders gave none.
+    // How each station's lines were answered, why its run ended, and what became of the store. A station that may give no orders gave none.
     ensures served { IfOk result (CameOfServing D.view J J.base terms.entry.orders terms.entry.turns I.remaining O.contents (store_view store) ports.items) }
 
     // Which fault comes, and that the store and the ports come back as they were.

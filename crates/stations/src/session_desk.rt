@@ -96,7 +96,7 @@ impl<'r, 'w, 't, K: Began, J: Centre, R: Wait, V: Watch> SessionDesk<'r, 'w, 't,
         }
     }
 
-    // Shows what a command is answered, and counts the reply, if there is one.
+    // Shows the watch the answer to a command, and counts the reply, if there is one.
     fn show(&self, replied: &Result<Reply<Global>, Outage>, counts: &mut ReplyCounts)
         ensures { counts.new ≡ with_result counts.old replied.now }
     {
@@ -119,7 +119,7 @@ impl<'r, 'w, 't, K: Began, J: Centre, R: Wait, V: Watch> SessionDesk<'r, 'w, 't,
     }
 }
 
-// Whether a command is answered so once the device has failed.
+// Whether the result is `device` or `broken`. Once the device has failed, a command is answered so.
 fn is_failure(replied: &Result<Reply<Global>, Outage>) -> bool
     ensures { result ≡ is_failure replied.now }
 {

@@ -6,7 +6,7 @@ use std::rt::Clock;
 use std::sync::Wait;
 use std::sync::atomic::{AtomicU64, Ordering};
 
-/// The text of a station's listing. It counts until it is written.
+/// The text of a station's listing. The bound counts it until it is written.
 #[derive(Drop)]
 pub struct StationText<'g, 'r, R> {
     bound: &'g ListingBound,
@@ -25,7 +25,7 @@ impl<'g, 'r, R: Wait> StationText<'g, 'r, R> {
         }
     }
 
-    /// Counts a text of so many bytes, if it may be kept. It returns whether it may.
+    /// Counts a text of so many bytes, if it may be kept. Returns whether it may.
     pub(crate) fn reserve(&self, bytes: usize) -> bool {
         let kept = self.bound.add(self.rt, bytes as u64);
         if kept {
@@ -34,7 +34,7 @@ impl<'g, 'r, R: Wait> StationText<'g, 'r, R> {
         kept
     }
 
-    /// The text is written, or dropped.
+    /// Stops counting the text: it is written, or dropped.
     pub(crate) fn release(&self) {
         let bytes = self.bytes.swap(0, Ordering::SeqCst);
         if bytes > 0 {

@@ -1,10 +1,10 @@
-//! What sees a run while it goes on.
+//! What is called as a run goes on.
 
 use console::{Ran, RunFault};
 use flusher::Gate;
 use registration::Station;
 
-/// What sees a run while it goes on. It is the gate of the flusher's rounds too.
+/// What is called as a run goes on. It is also the gate of the flusher's rounds.
 ///
 /// Each call below is made in the station's thread. If no thread could be made for the station, `after_run` and the calls for the end of its
 /// session are made in the thread of the run, before its first round. No contract says which thread makes a call, nor which call comes
