@@ -11,7 +11,7 @@ use Rattle.centre_core.specs.State.{State}
 use Rattle.recovery.specs.Lives.{StoreView}
 use Rattle.stations.specs.declared.orders.Orders.{Orders}
 use Rattle.stations.specs.declared.port.Port.{Port}
-use Rattle.stations.specs.Served.{HasServed}
+use Rattle.stations.specs.Served.{HasServedStations}
 use Rattle.stations.specs.declared.station_run.StationRun.{StationRun}
 use Rattle.served_disk.specs.declared.fault.Fault.{Fault}
 use Rattle.served_disk.specs.declared.serving.Served.{Served}
@@ -25,7 +25,7 @@ use Rattle.served_disk.specs.Printing.{station_text}
 pub record AreServed {D I O : Type 0} (disk : D → View) (J : Type 0) (base : State) (orders : Orders) (turns : ℕ) (unread : I → Option (List Byte)) (written : O → Option (List Byte))
     (opened : StoreView Global D) (ports : List (Port I O)) (served : Served D I O) : Type 0 where
   pub store : StoreView Global D
-  pub runs : HasServed disk J base orders turns unread written opened ports store served.runs.items
+  pub runs : HasServedStations disk J base orders turns unread written opened ports store served.runs.items
   pub left : served.disk ≡ store.disk
   pub broken : served.is_broken ≡ store.broken
 

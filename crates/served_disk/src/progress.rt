@@ -193,12 +193,12 @@ impl<'r, R: Clock + Eprint + Wait> Watch for Progress<'r, R> {
         self.doorbell.settle();
     }
 
-    fn answered(&self, station: Station, is_accepted: bool) {
+    fn after_answer(&self, station: Station, is_accepted: bool) {
         self.count(station, is_accepted);
     }
 
-    fn failed(&self, _station: Station) {}
+    fn before_failure(&self, _station: Station) {}
 
     /// Faults are reported after all answers.
-    fn ended(&self, _station: Station, _ran: &Result<Ran, RunFault>) {}
+    fn after_run(&self, _station: Station, _ran: &Result<Ran, RunFault>) {}
 }

@@ -153,11 +153,11 @@ impl<'r, 'p, 'a, R: Eprint + Wait> Watch for ServiceWatch<'r, 'p, 'a, R> {
         self.doorbell.settle();
     }
 
-    fn answered(&self, _station: Station, _is_accepted: bool) {}
+    fn after_answer(&self, _station: Station, _is_accepted: bool) {}
 
     /// Reports that the device has failed, unless that was reported, and lets the program end if that is wanted. If the report fails,
     /// the next call tries again.
-    fn failed(&self, _station: Station) {
+    fn before_failure(&self, _station: Station) {
         if self.told.swap(1, Ordering::SeqCst) == 1 {
             return;
         }
@@ -172,7 +172,7 @@ impl<'r, 'p, 'a, R: Eprint + Wait> Watch for ServiceWatch<'r, 'p, 'a, R> {
 
     /// Closes the station's files, reports a fault, and then, if a log is wanted, that the station has ended. A report that fails
     /// changes nothing.
-    fn ended(&self, station: Station, ran: &Result<Ran, RunFault>) {
+    fn after_run(&self, station: Station, ran: &Result<Ran, RunFault>) {
         let Some(pair) = self.pair_of(station) else {
             return;
         };

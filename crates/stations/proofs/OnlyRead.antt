@@ -7,9 +7,9 @@ use Rattle.station_queue.specs.Ends.{Sending}
 use Rattle.flusher.specs.Sessions.{HasOnlyRead}
 use Rattle.flusher.specs.Stages.{Sent}
 use Rattle.flusher.specs.declared.session.Session.{Session}
-use Rattle.stations.specs.OfSession.{OnlyReads, at_session}
+use Rattle.stations.specs.OfSession.{SessionOnlyReads, at_session}
 
-pub only_reads : {J : Type 0} (base : State) (s t : Session J) → HasOnlyRead s t → OnlyReads J base (at_session s) (at_session t)
+pub only_reads : {J : Type 0} (base : State) (s t : Session J) → HasOnlyRead s t → SessionOnlyReads J base (at_session s) (at_session t)
 only_reads base s t read = (
   ap (λ (x : Sending). x.station) read.sender,
   ap (λ (x : Sending). x.sent) read.sender,

@@ -1,5 +1,5 @@
 -- What is known of a run of many stations, from what its parts say.
-use Rattle.std.proofs.Common.{◌≡◌, ℕ, zero, suc, ◌+◌, ◌≤◌, List, [], ◌∷◌, ◌++◌, length, refl, sym, ap, ◌∙◌, subst}
+use Rattle.std.proofs.Common.{◌≡◌, ℕ, zero, suc, inl, inr, ◌+◌, ◌≤◌, List, [], ◌∷◌, ◌++◌, length, refl, sym, ap, ◌∙◌, subst}
 use Rattle.std.specs.Prelude.{All, IsErrOf, Option, Some, map, slice_get, false, true}
 use Rattle.std.specs.declared.alloc.Global.{Global}
 use Rattle.std.specs.List.{AllByRecursion, AllZip}
@@ -51,7 +51,7 @@ use Rattle.stations.specs.Done.{EndsAs, IsDone, IsRunOf, IsToldOf, speaker_of}
 use Rattle.stations.specs.Flushed.{HasFlushed}
 use Rattle.stations.specs.Orders.{has_order, may}
 use Rattle.stations.specs.declared.station_run.StationRun.{StationRun}
-use Rattle.stations.specs.Served.{HasServed, IsBorneOut, new_view, speaker_at}
+use Rattle.stations.specs.Served.{HasServedStations, IsBorneOut, IsOnDisk, new_view, speaker_at}
 use Rattle.stations.proofs.Lines.{lines_borne}
 use Rattle.stations.proofs.Ordered.{sublist_without}
 use Rattle.stations.proofs.Written.{written_after}
@@ -60,6 +60,12 @@ use Rattle.stations.proofs.Places.{map_length, mapped, of_all_at, one_only, zip_
 -- its end is none of the commands that a session sent
 commands_before_end : (sent : List Entry) (station : Station) → commands_among (sent ++ entry.Ended station ∷ []) ≡ commands_among sent
 commands_before_end sent station = commands_among-append sent (entry.Ended station ∷ []) ∙ append-nil (commands_among sent)
+
+-- a register that is on the disk is on an honest one
+on_honest : {D : Type 0} (disk : D → View) (opened : StoreView Global D) → (HasBeenHonest disk opened → IsStoredIn Global disk opened) → IsOnDisk disk opened →
+    (disk opened.disk).honest × IsStoredIn Global disk opened
+on_honest disk opened kept (inl been) = (been.1, kept been)
+on_honest disk opened kept (inr known) = known
 
 -- if each image of an opened disk opens to its register, so does each image of a new flusher's disk
 pub stored_first : {D : Type 0} (disk : D → View) (base : State) (opened : StoreView Global D) (n : ℕ) (f : FlusherView D) → opened.broken ≡ false → IsNewFlusher n opened f →
@@ -273,7 +279,7 @@ module _ {J I O : Type 0} (base : State) (unread : I → Option (List Byte)) (wr
         (opened.broken ≡ false → HasBeenHonest disk opened → IsStoredIn Global disk opened) → n ≡ length ports → IsNewFlusher n opened first →
         HasFlushed disk base first last → store ≡ last.store →
         (ended : List (Ended J)) (runs : List (StationRun I O)) → ended ≡ map (λ (d : Done J I O). d.ended) done → runs ≡ map given_of done →
-        IsClosed base last ended → HasServed disk J base orders turns unread written opened ports store runs
+        IsClosed base last ended → HasServedStations disk J base orders turns unread written opened ports store runs
     has_served disk opened store n whole is_kept count begun flushed store_is ended runs is_ended is_runs closed =
         let jobs_length : length jobs ≡ length ports = sym (map_length (λ (x : Job J I O). x.port) jobs) ∙ ap length with_ports in
         let sound_first : first.store.broken ≡ false = ap (λ (s : StoreView Global D). s.broken) begun.store ∙ whole in
@@ -281,9 +287,11 @@ module _ {J I O : Type 0} (base : State) (unread : I → Option (List Byte)) (wr
         let there : (k : ℕ) (port : Port I O) (run : StationRun I O) (view : SessionView) → slice_get ports k ≡ Some port →
         slice_get runs k ≡ Some run → slice_get (views_of jobs done all) k ≡ Some view → EndsAt k port run view =
         λ k port run view at_port at_run at_view. ends_there k port run view at_port (subst (λ (l : List (StationRun I O)). slice_get l k ≡ Some run) is_runs at_run) at_view in
-        let durable : (disk opened.disk).honest → IsStoredIn Global disk opened → (k : ℕ) (view : SessionView) → slice_get (views_of jobs done all) k ≡ Some view →
+        let on_disk : IsOnDisk disk opened → IsStoredFor disk base first =
+        λ on. let it = on_honest disk opened (is_kept whole) on in stored_first disk base opened n first whole begun it.0 it.1 in
+        let durable : IsOnDisk disk opened → (k : ℕ) (view : SessionView) → slice_get (views_of jobs done all) k ≡ Some view →
         AllByRecursion (WasDurable disk base last) view.received =
-        λ honest kept. each_durable disk (run_durable disk base first last (flushed.lasting (stored_first disk base opened n first whole begun honest kept)) (none_durable disk))
+        λ on. each_durable disk (run_durable disk base first last (flushed.lasting (on_disk on)) (none_durable disk))
         (subst (λ l. IsClosed base last l) is_ended closed) (sessions_ended flushed.same) in
         let borne = each_borne (subst (λ l. IsClosed base last l) is_ended closed) (sessions_ended flushed.same) in
         let begins = subst (λ m. IsNewFlusher m opened first) count begun in
@@ -299,10 +307,9 @@ module _ {J I O : Type 0} (base : State) (unread : I → Option (List Byte)) (wr
           settled = flushed.settled;
           store_is = store_is;
           kept = is_kept whole;
-          stored = λ honest kept. flushed.stored (stored_first disk base opened n first whole begun honest kept);
-          any_moment = λ honest kept. at_ends (λ s t. LeavesOnly (disk s.disk) (disk t.disk) (OpensBetween base first last))
-              (flushed.any_moment (stored_first disk base opened n first whole begun honest kept) sound_first);
-          lasting = λ honest kept. flushed.lasting (stored_first disk base opened n first whole begun honest kept);
+          stored = λ on. flushed.stored (on_disk on);
+          any_moment = λ on. at_ends (λ s t. LeavesOnly (disk s.disk) (disk t.disk) (OpensBetween base first last)) (flushed.any_moment (on_disk on) sound_first);
+          lasting = λ on. flushed.lasting (on_disk on);
           later = at_ends (λ s t. (disk s.disk).failures ≤ (disk t.disk).failures) flushed.later;
           failed = λ broken. at_ends (λ s t. HasFailed (disk s.disk) (disk t.disk)) (flushed.failed sound_first (sym (ap (λ (s : StoreView Global D). s.broken) store_is) ∙ broken));
           views = views_of jobs done all;
@@ -313,10 +320,10 @@ module _ {J I O : Type 0} (base : State) (unread : I → Option (List Byte)) (wr
           taken = each_taken (subst (λ l. IsClosed base last l) is_ended closed) (sessions_ended flushed.same);
           received = each_received core.answers core.answered (subst (λ l. IsClosed base last l) is_ended closed) (sessions_ended flushed.same);
           told = λ k port run view at_port at_run at_view. each_told k port run view (there k port run view at_port at_run at_view);
-          synced = λ honest kept k port run view at_port at_run at_view.
+          synced = λ on k port run view at_port at_run at_view.
               written_after disk J base last (speaker_at orders k) view run.passed (unread port.reader) (written port.writer) (written run.writer)
               run.ran
-              (each_told k port run view (there k port run view at_port at_run at_view)) (durable honest kept k view at_view);
+              (each_told k port run view (there k port run view at_port at_run at_view)) (durable on k view at_view);
           closed = borne;
           orderless = λ k view at_view never.
               let none = each_orderless k view at_view never in

@@ -27,24 +27,23 @@ abbrev pub speaker_of : {J I O : Type 0} → Job J I O → Speaker
 speaker_of job = record { station = job.session.sender.station; orders = job.orders }
 
 module _ (J : Type 0) (base : State) where
-  -- The lines of a station were answered by its session. Given are the station and whether it may give orders; what its reader had left and
-  -- its writer held before the run; what the session had sent, received and seen before and after it; what the writer holds after it; and how
-  -- it ended.
+  -- A station's session answered its lines. The arguments are the station, and whether it may give orders; what its reader had left and its
+  -- writer held before the run; the session's view before and after it; what the writer holds after it; and how it ended.
   abbrev pub IsRunOf : Speaker → Option (List Byte) → Option (List Byte) → SessionView → SessionView → Option (List Byte) → Result Ran RunFault → Type 0
   IsRunOf speaker unread written s t after ran =
       IsRun Global (of_session J base speaker.orders)
       (record { speaker = speaker; world = record { station = speaker.station; view = s }; unread = unread; written = written })
       (record { result = ran; world = record { station = speaker.station; view = t }; written = after })
 
-  -- What is known of a run (`IsRunOf`) by the calls of its reader and its writer, which `passed` has, whatever reader and writer are.
+  -- What is known of a run (`IsRunOf`) over any reader and any writer. It speaks of their calls, which are in `passed`.
   abbrev pub IsToldOf : {I O : Type 0} → Speaker → Option (List Byte) → Option (List Byte) → Passed I O → SessionView → SessionView → Option (List Byte) → Result Ran RunFault → Type 0
   IsToldOf speaker unread written passed s t after ran =
       TellsBy Global (of_session J base speaker.orders) speaker unread written
       (record { station = speaker.station; view = s }) (record { station = speaker.station; view = t }) after ran (reader_events passed) (writer_events passed)
 
   module _ {I O : Type 0} (unread : I → Option (List Byte)) (written : O → Option (List Byte)) where
-    -- The session of a job answered the lines of its port and then ended, and `done` came of it. `last` is the session after the run. In the
-    -- run it submitted no order if its station may give none. After the run it sent its end, and nothing else.
+    -- A job's session answered the lines of its port and then ended. What came of it is `done`, and `last` is the session's view after the run.
+    -- If its station may give no orders, it submitted none. After the run it sent its end, and nothing else.
     pub record EndsAs (job : Job J I O) (last : SessionView) (done : Done J I O) : Type 0 where
       pub run : IsRunOf (speaker_of job) (unread job.port.reader) (written job.port.writer) (view_of job.session) last (written done.run.writer) done.run.ran
       pub told : IsToldOf (speaker_of job) (unread job.port.reader) (written job.port.writer) done.run.passed (view_of job.session) last (written done.run.writer) done.run.ran
@@ -58,10 +57,10 @@ module _ (J : Type 0) (base : State) where
       -- if the run was out of memory, it left the session unchanged
       pub memory : IsErrOf done.run.ran NoMemory → last ≡ view_of job.session
 
-    -- this came of the job, whatever the session was after its run
+    -- `done` came of the job, with some view of the session after its run
     abbrev pub IsDone : Job J I O → Done J I O → Type 0
     IsDone job done = (last : SessionView) × EndsAs job last done
 
-    -- this came of each of these jobs, in order
+    -- each of `done` came of the job at its place
     abbrev pub AreDone : List (Job J I O) → List (Done J I O) → Type 0
     AreDone jobs done = AllZip IsDone jobs done

@@ -17,12 +17,12 @@ pub record Beginning : Type 0 where
   pub seen : List (Asked Global)
 
 module _ {J : Type 0} where
-  -- what this session is, as a beginning
+  -- this session as the beginning of a run
   abbrev pub beginning_of : Session J → Beginning
   beginning_of s = record { sender = s.sender; receiver = s.receiver; seen = s.viewer }
 
-  -- The session has the station, queue and channel that it had at this beginning, and what was seen then is a prefix of what is
-  -- seen. It has submitted no order since, if its station may give none.
+  -- The session has the station, queue and channel of this beginning. What was seen then is a prefix of what is seen now. If its station may
+  -- give no orders, it has submitted none since.
   pub record GoesOnFrom (may_order : Bool) (b : Beginning) (s : Session J) : Type 0 where
     pub queue : s.sender.queue ≡ b.sender.queue
     pub station : s.sender.station ≡ b.sender.station
@@ -30,7 +30,7 @@ module _ {J : Type 0} where
     pub seen : IsPrefix b.seen s.viewer
     pub submits : Submits may_order b.sender.sent s.sender.sent
 
-  -- the session goes on from this beginning; without a beginning nothing is stated
+  -- the session goes on from this beginning, if there is one
   abbrev pub GoesOn : Bool → Option Beginning → Session J → Type 0
   GoesOn may_order None s = Unit {0}
   GoesOn may_order (Some b) s = GoesOnFrom may_order b s

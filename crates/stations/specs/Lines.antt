@@ -12,12 +12,12 @@ use Rattle.console.specs.declared.line.Line.TheVariants as line
 use Rattle.console.specs.Reading.{Speaker, heard}
 use Rattle.flusher.specs.Borne.{IsReplyAfter}
 
--- P holds of the reply in the answer to a command: `ok`, `kept` or `no`; an outage word needs nothing
+-- P holds of the reply (`ok`, `kept` or `no`) in an answer; nothing is stated of any other answer
 abbrev pub IsReplied : (Reply Global → Type 0) → Answer Global → Type 0
 IsReplied P (answer.Replied sequence reply) = P reply
 IsReplied P other = Unit {0}
 
--- P holds of the command in a line and the reply in its answer; only an answer to a command needs something
+-- P holds of the command in a line and the reply in its answer; nothing is stated of a line without a command
 abbrev pub IsRepliedTo : (Asked Global → Reply Global → Type 0) → Line Global → Answer Global → Type 0
 IsRepliedTo P line.Silent given = Unit {0}
 IsRepliedTo P (line.Bad fault) given = Unit {0}
@@ -39,8 +39,8 @@ AreRepliedTo P speaker (text ∷ texts) (given ∷ answers) = IsRepliedTo P (hea
 abbrev pub IsLineAfter : State → List (Asked Global) → Line Global → Answer Global → Type 0
 IsLineAfter base commands said given = IsRepliedTo (IsReplyAfter base commands) said given
 
--- The answer to each line of a station is borne out by a prefix of the durable commands. No prefix is shorter than the one before it, nor
--- than `low` commands.
+-- A prefix of the durable commands bears out the answer to each line of a station. No prefix is shorter than the one before it, nor than
+-- `low` commands.
 abbrev pub AreLinesBorneOut : State → List (Asked Global) → Speaker → ℕ → List (List Byte) → List (Answer Global) → Type 0
 AreLinesBorneOut base durable speaker low [] answers = Unit {0}
 AreLinesBorneOut base durable speaker low (text ∷ texts) [] = Unit {0}

@@ -6,7 +6,7 @@ use Rattle.sector_disk.specs.Disk.{View}
 use Rattle.centre_core.specs.State.{State}
 use Rattle.recovery.specs.Lives.{Event, IsLife, Open, StoreView}
 use Rattle.flusher.specs.Lives.{HasLived}
-use Rattle.stations.specs.Served.{HasServed}
+use Rattle.stations.specs.Served.{HasServedStations}
 use Rattle.stations.specs.declared.orders.Orders.{Orders}
 use Rattle.stations.specs.declared.port.Port.{Port}
 use Rattle.stations.specs.declared.station_run.StationRun.{StationRun}
@@ -16,6 +16,6 @@ use Rattle.stations.specs.declared.station_run.StationRun.{StationRun}
 abbrev pub RunsGoOnWithLives : {D I O : Type 0} → (D → View) → (J : Type 0) → State → (I → Option (List Byte)) → (O → Option (List Byte)) → Type 0
 RunsGoOnWithLives {D} {I} {O} disk J base unread written =
     (orders : Orders) (turns : ℕ) (opened store : StoreView Global D) (ports : List (Port I O)) (runs : List (StationRun I O))
-    (served : HasServed disk J base orders turns unread written opened ports store runs) → opened.register ≡ base → opened.broken ≡ false
+    (served : HasServedStations disk J base orders turns unread written opened ports store runs) → opened.register ≡ base → opened.broken ≡ false
     → (from : State) (before : List (Event Global)) → IsLife Global disk from before (Open opened)
     → HasLived disk base from before served.first served.last

@@ -23,12 +23,12 @@ use Rattle.flusher.specs.Submitted.{SessionView, IsSubmission}
 use Rattle.flusher.specs.Sessions.{view_of}
 use Rattle.stations.specs.Orders.{is_allowed}
 
--- what a session as a desk is modelled as: its station, and what it sent, received, has seen and has reached
+-- the model of a session as a desk: its station, and what it has sent, received, seen and reached
 pub record AtSession : Type 0 where
   pub station : Station
   pub view : SessionView
 
--- the outage word for a fault: the one that a store as a desk has for it
+-- the outage word for a fault, the same that a store as a desk answers
 abbrev pub word_of : StoreFault → Outage
 word_of fault.DiskFault = Device
 word_of fault.NoMemory = Memory
@@ -40,7 +40,7 @@ word_of fault.Broken = Broken
 word_of fault.Unready = Broken
 
 module _ {J : Type 0} where
-  -- this session as a desk, as modelled
+  -- the model of this session as a desk
   abbrev pub at_session : Session J → AtSession
   at_session s = record { station = s.sender.station; view = view_of s }
 
@@ -53,7 +53,7 @@ module _ {J : Type 0} where
   result_of (answer.Fault f) = Err (word_of f)
   result_of answer.Closed = Err Closed
 
--- the result is `device` or `broken`: a command is answered so once the device has failed
+-- The result is `device` or `broken`. Once the device has failed, a command is answered so.
 abbrev pub is_failure : Result (Reply Global) Outage → Bool
 is_failure (Ok replied) = false
 is_failure (Err Memory) = false
@@ -81,8 +81,8 @@ IsOfAnother s c result t = (c.station ≡ s.station → ⊥) × (result ≡ Err 
 abbrev pub IsForbidden : Bool → AtSession → Asked Global → Result (Reply Global) Outage → AtSession → Type 0
 IsForbidden may_order s c result t = (is_allowed may_order c ≡ false) × (result ≡ Err Closed) × (t ≡ s)
 
--- The result of a query. It is what the register answers after all that is seen now, which begins with all that was seen before. Or
--- memory ran out for a list. Or it is `closed`, and no more is seen.
+-- The result of a query: what the register answers after the commands that are seen now. They begin with those that were seen before. Or
+-- memory ran out for a list. Or the result is `closed`, and no more is seen.
 abbrev pub AnswersAfter : State → List (Asked Global) → Query → Result (QueryAnswer Global) Outage → List (Asked Global) → Type 0
 AnswersAfter base old q (Ok query_answer) new = (query_answer ≡ answer_to (after base new) q) × IsPrefix old new
 AnswersAfter base old q (Err Memory) new = AsksForList q × IsPrefix old new
@@ -91,8 +91,8 @@ AnswersAfter base old q (Err Device) new = ⊥
 AnswersAfter base old q (Err Broken) new = ⊥
 AnswersAfter base old q (Err Epochs) new = ⊥
 
--- The register that is read for a listing. It is the one after all that is seen now, which begins with all that was seen before. Or it is
--- `closed`, and no more is seen. It has no other outage word.
+-- What is read for a listing: the register after the commands that are seen now. They begin with those that were seen before. Or the result
+-- is `closed`, and no more is seen. No other outage word comes.
 abbrev pub ReadsAfter : State → List (Asked Global) → Result State Outage → List (Asked Global) → Type 0
 ReadsAfter base old (Ok r) new = (r ≡ after base new) × IsPrefix old new
 ReadsAfter base old (Err Closed) new = new ≡ old
@@ -103,17 +103,17 @@ ReadsAfter base old (Err Epochs) new = ⊥
 
 module _ (J : Type 0) (base : State) where
   -- nothing is sent or received, and all that is seen is reached
-  abbrev pub OnlyReads : AtSession → AtSession → Type 0
-  OnlyReads s t =
+  abbrev pub SessionOnlyReads : AtSession → AtSession → Type 0
+  SessionOnlyReads s t =
       (t.station ≡ s.station) × (t.view.sent ≡ s.view.sent) × (t.view.received ≡ s.view.received) × (t.view.reached ≡ length t.view.seen)
 
   -- a query is answered
   abbrev pub Answers : AtSession → Query → Result (QueryAnswer Global) Outage → AtSession → Type 0
-  Answers s q result t = OnlyReads s t × AnswersAfter base s.view.seen q result t.view.seen
+  Answers s q result t = SessionOnlyReads s t × AnswersAfter base s.view.seen q result t.view.seen
 
   -- a register is read for a listing
-  abbrev pub Reads : AtSession → Result State Outage → AtSession → Type 0
-  Reads s result t = OnlyReads s t × ReadsAfter base s.view.seen result t.view.seen
+  abbrev pub SessionReads : AtSession → Result State Outage → AtSession → Type 0
+  SessionReads s result t = SessionOnlyReads s t × ReadsAfter base s.view.seen result t.view.seen
 
 -- `may_order` says whether the session's station may give orders
 module _ (J : Type 0) (base : State) (may_order : Bool) where
@@ -124,4 +124,4 @@ module _ (J : Type 0) (base : State) (may_order : Bool) where
 
   -- the rules of a session with a centre that was opened over this register
   abbrev pub of_session : Rules Global AtSession
-  of_session = record { applies = Applies; answers = Answers J base; reads = Reads J base }
+  of_session = record { applies = Applies; answers = Answers J base; reads = SessionReads J base }

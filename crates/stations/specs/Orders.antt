@@ -15,7 +15,7 @@ abbrev pub may : Orders → Station → Bool
 may orders.OfAll station = true
 may (orders.Of named) station = list_any (λ one. one == station) named.now
 
--- this station may give orders, if these are named: without any, each may
+-- this station may give orders, where these are named; if none is named, each may
 abbrev pub may_by : List Station → Station → Bool
 may_by [] station = true
 may_by named station = list_any (λ one. one == station) named
@@ -28,6 +28,6 @@ is_allowed may_order c = may_order || not (is_order c.body)
 abbrev pub has_order : List (Asked Global) → Bool
 has_order commands = list_any (λ c. is_order c.body) commands
 
--- what a session put into the queue: entries after the old ones, and no order among them if its station may give none
+-- A session put more entries into the queue, after the old ones. If its station may give no orders, none of them is one.
 abbrev pub Submits : Bool → List Entry → List Entry → Type 0
 Submits may_order old new = (more : List Entry) × (new ≡ old ++ more) × (may_order ≡ false → has_order (commands_among more) ≡ false)

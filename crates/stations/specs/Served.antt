@@ -1,5 +1,5 @@
 -- What a run of many stations does.
-use Rattle.std.specs.Prelude.{◌≡◌, ◌∷◌, ◌++◌, ◌+◌, ◌≤◌, ℕ, Contains, IsErrOf, List, [], length, Option, slice_get, Some, true, false}
+use Rattle.std.specs.Prelude.{◌≡◌, ◌⊎◌, ◌∷◌, ◌++◌, ◌+◌, ◌≤◌, ℕ, Contains, IsErrOf, List, [], length, Option, slice_get, Some, true, false}
 use Rattle.std.specs.List.{AllByRecursion}
 use Rattle.std.specs.Str.Lines.{lines}
 use Rattle.std.specs.declared.alloc.Global.{Global}
@@ -48,20 +48,21 @@ use Rattle.stations.specs.declared.station_run.StationRun.{StationRun}
 abbrev pub new_view : SessionView
 new_view = record { sent = []; received = []; seen = []; reached = 0 }
 
--- What the session of a station has to do with the commands that are durable in the end. Each answer that it received is borne
--- out by a prefix of them, and no such prefix is shorter than the one before it. If answered lines lead from a new session to
--- this one, the answer to each command in them is borne out in this way too. The durable commands of its own station are some
--- of those that it sent, in the order in which it sent them. What it has seen is a prefix of the durable ones.
+-- The durable commands at the end of a run bear out what a station's session did in it.
 pub record IsBorneOut (J : Type 0) (base : State) (durable : List (Asked Global)) (speaker : Speaker) (view : SessionView) : Type 0 where
+  -- a prefix of them bears out each answer that the session received, and no prefix is shorter than the one before
   pub answers : AreBorneOut base durable 0 view.received
+  -- if answered lines lead from a new session to this one, prefixes bear out the answers to their commands in the same way
   pub lines : (texts : List (List Byte)) (given : List (Answer Global))
       → Dialogue (of_session J base speaker.orders) speaker 0 (record { station = speaker.station; view = new_view }) texts given
       (record { station = speaker.station; view = view })
       → AreLinesBorneOut base durable speaker 0 texts given
+  -- the durable commands of its station are some of those that it sent, in the order in which it sent them
   pub order : Sublist (of_station speaker.station durable) (commands_among view.sent)
+  -- what it has seen is a prefix of the durable commands
   pub seen : IsPrefix view.seen durable
 
--- the station of a place, counted from 0, and whether it may give orders
+-- the station at a place, counted from 0, and whether it may give orders
 abbrev pub speaker_at : Orders → ℕ → Speaker
 speaker_at orders k = record { station = k + 1; orders = may orders (k + 1) }
 
@@ -70,35 +71,42 @@ abbrev pub IsReplyDurable : {D : Type 0} → (D → View) → State → FlusherV
 IsReplyDurable disk base last received c reply =
     (x : Sent) × Contains received x × (x.command ≡ c) × (x.decision ≡ Replied reply) × WasDurable disk base last x
 
--- What is on a station's OUT, and that it was on the disk before. Given are the session after the run, what passed in it, what its reader had
--- left, and what its writer held before the run and holds after it.
+-- What a station's writer took in a run, and that the replies in it were durable before. The session after the run is `view`. The calls of its
+-- reader and its writer are in `passed`. The reader had `unread` left. The writer held `before`, and holds `after`.
 pub record IsWrittenAfter {D I O : Type 0} (disk : D → View) (J : Type 0) (base : State) (last : FlusherView D) (speaker : Speaker) (view : SessionView)
     (passed : Passed I O) (unread before after : Option (List Byte)) : Type 0 where
-  -- the bytes that the calls of the reader gave are the first that it had left, if these are known
+  -- if it is known what the reader had left, its calls gave a prefix of this
   pub gave : GaveFirst unread (read_by (reader_events passed))
-  -- the lines in these bytes are `done` and then `left`; `answers` are the answers to `done`, one for each line
+  -- The lines in the bytes that they gave are `done` and then `left`. Each line of `done` has one of `answers`, in order.
   pub done : List (List Byte)
   pub left : List (List Byte)
   pub first : lines (read_by (reader_events passed)) ≡ done ++ left
   pub answers : List (Answer Global)
   pub each : Dialogue (of_session J base speaker.orders) speaker 0 (record { station = speaker.station; view = new_view }) done answers
       (record { station = speaker.station; view = view })
-  -- What was written follows what the writer held before, if the bytes of the writer are known. At each moment of the run it is a prefix of the
-  -- texts that were answered before. The texts of `answers` are those that were answered in the run, and then `missing`.
+  -- if it is known what the writer held, what was written follows this
   pub taken : HasTaken before (writer_events passed) after
+  -- at each moment of the run, what was written is a prefix of the answers that were given before
   pub only : OnlyAnswers (writer_events passed)
+  -- the texts of `answers` are those that were given in the run, and then `missing`
   pub missing : List Byte
   pub texts_are : texts answers ≡ answered_by (writer_events passed) ++ missing
-  -- each `ok`, `kept` and `no` to a command among these answers was durable before it was sent to the session: an image of any moment since
-  -- opens to a list of commands that bears it out
+  -- Each `ok`, `kept` and `no` to a command among `answers` was durable before it was sent to the session. Each image since opens to commands
+  -- that bear it out.
   pub durable : AreRepliedTo (IsReplyDurable disk base last view.received) speaker done answers
 
--- Stations 1, 2 and so on were served over a store that was opened, each with its port. Given are which of them may give orders, and the most
--- calls of each reader. This store and these runs came of it.
-pub record HasServed {D I O : Type 0} (disk : D → View) (J : Type 0) (base : State) (orders : Orders) (turns : ℕ) (unread : I → Option (List Byte)) (written : O → Option (List Byte))
-    (opened : StoreView Global D) (ports : List (Port I O)) (store : StoreView Global D) (runs : List (StationRun I O)) : Type 0 where
-  -- a new flusher of the store did rounds until it had taken the end of each session, and none after; what is durable then is a history, and
-  -- the register of a sound store is what it makes of the base
+-- The register is on an honest disk when the run begins. Either the disk was honest when the store was opened and is when the run begins: then
+-- the register is on it (`kept` of `HasServedStations`). Or the disk is honest, and the register is known to be on it, as in a life of the disk.
+abbrev pub IsOnDisk : {D : Type 0} → (D → View) → StoreView Global D → Type 0
+IsOnDisk disk opened = HasBeenHonest disk opened ⊎ ((disk opened.disk).honest × IsStoredIn Global disk opened)
+
+-- Stations 1, 2 and so on were served over an opened store, each with its port. `orders` says which of them may give orders, and `turns` how often
+-- a reader may be called. What came of it is a store, and a run for each station.
+pub record HasServedStations {D I O : Type 0} (disk : D → View) (J : Type 0) (base : State) (orders : Orders) (turns : ℕ)
+    (unread : I → Option (List Byte)) (written : O → Option (List Byte)) (opened : StoreView Global D) (ports : List (Port I O))
+    (store : StoreView Global D) (runs : List (StationRun I O)) : Type 0 where
+  -- A new flusher of the store did rounds until it had taken the end of each session, and none after. It is `first` before its rounds, and
+  -- `last` after them.
   pub first : FlusherView D
   pub last : FlusherView D
   pub begun : IsNewFlusher (length ports) opened first
@@ -107,52 +115,50 @@ pub record HasServed {D I O : Type 0} (disk : D → View) (J : Type 0) (base : S
   pub at_once : HasStopped disk base first last
   -- the rounds are one run of the core from its opening
   pub core : IsCoreRun base (length ports) first last
+  -- what is durable in the end is a history, and the register of a sound store is what this history makes of the base
   pub settled : IsSettled base last
   pub store_is : store ≡ last.store
-  -- if the disk was honest when the store was opened, and is when the run begins, the register is on the disk then
+  -- if the disk was honest when the store was opened, and is when the run begins, the register is on it then
   pub kept : HasBeenHonest disk opened → IsStoredIn Global disk opened
-  -- if the register is on an honest disk then, each image of the disk opens to what is durable in the end, or to this and what was under way
-  -- when the disk failed
-  pub stored : (disk opened.disk).honest → IsStoredIn Global disk opened → IsStoredFor disk base last
-  -- After a stop at any moment of the run the disk opens to no less than was durable at first. It opens to no more than is durable at last, or
-  -- if the disk has failed, than this and what was under way.
-  pub any_moment : (disk opened.disk).honest → IsStoredIn Global disk opened
-      → LeavesOnly (disk opened.disk) (disk store.disk) (OpensBetween base first last)
-  -- after a stop since the end of a round the disk opens to no less than was durable then
-  pub lasting : (disk opened.disk).honest → IsStoredIn Global disk opened → AreLasting disk base first last
-  -- only a failure of the disk breaks the store
+  -- After the run each image of the disk opens to what is durable. If the disk has failed, it may open to this and what was under way.
+  pub stored : IsOnDisk disk opened → IsStoredFor disk base last
+  -- After a stop at any moment of the run, the disk opens to at least what was durable at first. It opens to at most what is durable in the
+  -- end. If the disk has failed, what was under way may follow this.
+  pub any_moment : IsOnDisk disk opened → LeavesOnly (disk opened.disk) (disk store.disk) (OpensBetween base first last)
+  -- after a stop at any moment since a round, the disk opens to at least what was durable at the end of this round
+  pub lasting : IsOnDisk disk opened → AreLasting disk base first last
+  -- the disk counts no fewer failures than before, and only a failure of the disk breaks the store
   pub later : (disk opened.disk).failures ≤ (disk store.disk).failures
   pub failed : store.broken ≡ true → HasFailed (disk opened.disk) (disk store.disk)
-  -- one run for each port, in order of station: its lines were answered by a new session of its station, after what its writer held
+  -- There is one run for each port, in order of station. A new session of the station answered its lines. The answers follow what its writer held.
   pub views : List SessionView
   pub count : (length runs ≡ length ports) × (length views ≡ length ports)
   pub each : (k : ℕ) (port : Port I O) (run : StationRun I O) (view : SessionView)
       → slice_get ports k ≡ Some port → slice_get runs k ≡ Some run → slice_get views k ≡ Some view
       → IsRunOf J base (speaker_at orders k) (unread port.reader) (written port.writer) new_view view (written run.writer) run.ran
-  -- Why each run ended: its text came to its end, its reader failed or was called as often as it may be, its writer failed, or it was given
-  -- up as out of memory before the first call, also where no thread could be made. A reader failed only in a run that ended for its reader,
-  -- and a writer only in a run that ended for its writer.
+  -- Why each run ended. Its text came to its end; its reader failed, or was called `turns` times; its writer failed; or memory ran out before
+  -- the first call. If no thread could be made, that counts as out of memory. A reader failed only in a run that ended for its reader, and a
+  -- writer only in a run that ended for its writer.
   pub ends : (k : ℕ) (run : StationRun I O) → slice_get runs k ≡ Some run → EndsFor turns (reader_events run.passed) (writer_events run.passed) run.ran
-  -- a run that was out of memory came to no line: its session had sent, received and seen nothing
-  pub memory : (k : ℕ) (run : StationRun I O) (view : SessionView) → slice_get runs k ≡ Some run → slice_get views k ≡ Some view → IsErrOf run.ran fault.NoMemory → view ≡ new_view
+  -- a run that was out of memory answered no line: its session has sent, received and seen nothing
+  pub memory : (k : ℕ) (run : StationRun I O) (view : SessionView)
+      → slice_get runs k ≡ Some run → slice_get views k ≡ Some view → IsErrOf run.ran fault.NoMemory → view ≡ new_view
   -- the entries taken of each station are all that its session sent: its commands, and then its end
   pub taken : (k : ℕ) (view : SessionView) → slice_get views k ≡ Some view → entries_of (k + 1) last.taker.taken ≡ view.sent ++ Ended (k + 1) ∷ []
-  -- the answers that its session received are the first of those that the run of the core gave to the station
+  -- the answers that a session received are a prefix of those that the core's run gave to its station
   pub received : (k : ℕ) (view : SessionView) → slice_get views k ≡ Some view → IsPrefix view.received (answers_to (k + 1) core.answers)
-  -- whatever the readers and the writers are: what was read and what was written is what their calls gave and took in this run, and what was
-  -- written was answered before
+  -- Over any readers and writers: what was read and written is what their calls gave and took in this run. What was written was answered before.
   pub told : (k : ℕ) (port : Port I O) (run : StationRun I O) (view : SessionView)
       → slice_get ports k ≡ Some port → slice_get runs k ≡ Some run → slice_get views k ≡ Some view
       → IsToldOf J base (speaker_at orders k) (unread port.reader) (written port.writer) run.passed new_view view (written run.writer) run.ran
-  -- and each reply that was answered was on the disk before
-  pub synced : (disk opened.disk).honest → IsStoredIn Global disk opened → (k : ℕ) (port : Port I O) (run : StationRun I O) (view : SessionView)
+  -- what each writer took, and that each reply in it was on the disk before
+  pub synced : IsOnDisk disk opened → (k : ℕ) (port : Port I O) (run : StationRun I O) (view : SessionView)
       → slice_get ports k ≡ Some port → slice_get runs k ≡ Some run → slice_get views k ≡ Some view
       → IsWrittenAfter disk J base last (speaker_at orders k) view run.passed (unread port.reader) (written port.writer) (written run.writer)
-  -- each session is borne out by what is durable
+  -- what is durable in the end bears out each session
   pub closed : (k : ℕ) (view : SessionView) → slice_get views k ≡ Some view → IsBorneOut J base last.durable (speaker_at orders k) view
-  -- of a station that may give no orders, no command that its session submitted is an order, so none that is durable from it is
+  -- a station that may give no orders submitted none, and none of its durable commands is one
   pub orderless : (k : ℕ) (view : SessionView) → slice_get views k ≡ Some view → may orders (k + 1) ≡ false
       → (has_order (commands_among view.sent) ≡ false) × (has_order (of_station (k + 1) last.durable) ≡ false)
-  -- each answer that a session received was durable before it was sent: a stop at any moment since leaves what bears it out
-  pub durable : (disk opened.disk).honest → IsStoredIn Global disk opened
-      → (k : ℕ) (view : SessionView) → slice_get views k ≡ Some view → AllByRecursion (WasDurable disk base last) view.received
+  -- each answer that a session received was durable before it was sent: after a stop at any moment since, the disk bears it out
+  pub durable : IsOnDisk disk opened → (k : ℕ) (view : SessionView) → slice_get views k ≡ Some view → AllByRecursion (WasDurable disk base last) view.received

@@ -1,10 +1,10 @@
-//! Many stations over one store: each station's lines are answered in a thread of its own, by its session, beside one flusher.
-//! It starts these threads and joins them. It reads and writes by the ports that it is given, and knows nothing of files.
+//! Many stations over one store. A thread for each station answers its lines by its session, beside one flusher.
+//! This crate starts and joins these threads. It reads and writes through the ports that it is given, and knows nothing of files.
 #![tactic(auto)]
 
 mod job;
 mod listing;
-mod listing_gate;
+mod listing_bound;
 pub mod lives;
 mod many_stations;
 mod one_station;

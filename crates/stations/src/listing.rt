@@ -4,7 +4,7 @@ ghost use Rattle.listings.specs.Texts.{is_line};
 ghost use Rattle.stations.specs.Listings.{takes_turn};
 ghost use Rattle.stations.specs.Inside.Listing.{AddsListing};
 
-use crate::listing_gate::Turn;
+use crate::listing_bound::Turn;
 use crate::session_desk::Began;
 use crate::station_text::StationText;
 use desk::Outage;
@@ -33,7 +33,7 @@ fn takes_turn(listing: &Listing) -> bool
     !matches!(listing, Listing::Last(_))
 }
 
-// Adds the text of a listing of the register that the session reads: by the station that has the turn, if the listing takes one.
+// Adds the text of a listing of the register that the session reads. If the listing takes a turn, the station has it.
 fn read<K: Began, J: Centre>(
     turn: Option<&Turn<'_>>,
     session: &mut Session<J>,
@@ -50,11 +50,11 @@ fn read<K: Began, J: Centre>(
     }
 }
 
-// Whether a text may be kept until it is written. A text that fits into the room that `out` had before may; it is not counted.
+// Whether a text may be kept until it is written. A text that fits into the room that `out` had before may, and is not counted.
 fn may_keep<R: Wait>(text: &StationText<'_, '_, R>, room: usize, out: &Vec<u8, Global>) -> bool
     ensures { result ≡ false → room < vec_len out.now }
 {
-    out.len() <= room || text.keep(out.len())
+    out.len() <= room || text.reserve(out.len())
 }
 
 // Drops what was added to a text, and the memory that this took.

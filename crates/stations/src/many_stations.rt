@@ -13,13 +13,13 @@ ghost use Rattle.stations.specs.Many.{CameOfServing};
 ghost use Rattle.stations.specs.Orders.{may};
 
 use crate::job::{Done, Job};
-use crate::listing_gate::ListingGate;
+use crate::listing_bound::ListingBound;
 use crate::orders::Orders;
 use crate::port::Port;
 use crate::round_gate::since;
 use crate::station_job::Shared;
 use crate::station_run::StationRun;
-use crate::station_threads::{Held, ThreadRoom, serve_all};
+use crate::station_threads::{DroppableFlusher, ThreadRoom, serve_all};
 use crate::watch::Watch;
 use console::ServiceFigures;
 use flusher::{CentreFault, Ended, Flusher, Session, close, has_place, open_centre, register_of};
@@ -57,10 +57,10 @@ pub struct Many<D: Disk, I, O: Drop> {
     pub runs: Vec<StationRun<I, O>>,
 }
 
-/// What comes back where no station was served.
+/// What comes back if no station was served.
 #[derive(Drop)]
 pub struct Unserved<D: Disk, I: Drop, O: Drop> {
-    /// Why none was.
+    /// Why no station was served.
     pub fault: CentreFault,
     /// The store, as it was.
     pub store: Store<Global, D>,
@@ -89,9 +89,9 @@ struct PortTerms<'o> {
     turns: u32,
 }
 
-/// Room for what comes of this many stations.
+/// The lists of a run of this many stations, still empty, with room for each station.
 #[derive(Drop)]
-struct Room<J: Centre, I: Read + Drop, O: Write + Drop> {
+struct RunLists<J: Centre, I: Read + Drop, O: Write + Drop> {
     stations: usize,
     jobs: Vec<Job<J, I, O>>,
     threads: ThreadRoom<J, I, O>,
@@ -118,18 +118,18 @@ fn thread_room<J: Centre, I: Read + Drop, O: Write + Drop>(
     })
 }
 
-// Room for this many stations.
+// The lists of a run of this many stations.
 fn room_for<J: Centre, I: Read + Drop, O: Write + Drop>(
     alloc: Global,
     stations: usize,
-) -> Result<Room<J, I, O>, AllocError>
+) -> Result<RunLists<J, I, O>, AllocError>
     ensures { IfOk result (λ r. r.stations ≡ stations) }
 {
     let jobs = Vec::with_capacity(alloc, stations)?;
     let threads = thread_room(alloc, stations)?;
     let ended = Vec::with_capacity(alloc, stations)?;
     let runs = Vec::with_capacity(alloc, stations)?;
-    Ok(Room {
+    Ok(RunLists {
         stations,
         jobs,
         threads,
@@ -223,7 +223,7 @@ fn serve_opened<
     opened: (Flusher<J, D>, Vec<Session<J>>),
     ports: Vec<Port<I, O>>,
     terms: PortTerms<'_>,
-    room: Room<J, I, O>,
+    room: RunLists<J, I, O>,
 ) -> Many<D, I, O>
     requires settled { IsSettled J.base (view_of opened.0) }
     requires flusher { IsNewFlusher (vec_len ports) (view_of opened.0).store (view_of opened.0) }
@@ -233,7 +233,7 @@ fn serve_opened<
     ensures { CameOfServing D.view J J.base terms.entry.orders terms.entry.turns I.remaining O.contents (view_of opened.0).store ports.items result }
 {
     let (flusher, sessions) = opened;
-    let Room {
+    let RunLists {
         stations: _,
         jobs,
         threads,
@@ -242,7 +242,7 @@ fn serve_opened<
     } = room;
     let jobs = jobs_of(sessions, ports, terms, jobs);
     let rt = shared.rt;
-    let (held, done) = serve_all(shared, Held { flusher, rt }, jobs, threads);
+    let (held, done) = serve_all(shared, DroppableFlusher { flusher, rt }, jobs, threads);
     let (ended, runs) = split_done(done, ended, runs);
     let store = store_of(rt, held.into_flusher(), ended);
     Many { store, runs }
@@ -297,7 +297,7 @@ pub fn run_many<
     requires sound { store.broken ≡ false }
     requires centre { (terms.log.seen.book ≡ J.book) × (store.register ≡ J.base) }
 
-    // How each station's lines were answered and why its run ended, and what became of the store. A station that may give no orders gave none.
+    // How each station's lines were answered, why its run ended, and what became of the store. A station that may give no orders gave none.
     ensures served { IfOk result (CameOfServing D.view J J.base terms.entry.orders terms.entry.turns I.remaining O.contents (store_view store) ports.items) }
 
     // Which fault comes, and that the store and the ports come back as they were.
@@ -330,7 +330,7 @@ pub fn run_many<
                 watch,
                 alloc,
                 refused: AtomicU64::new(0),
-                gate: ListingGate::new(stations),
+                bound: ListingBound::new(stations),
                 service,
                 syncs,
                 start,

@@ -1,7 +1,7 @@
 //! The run of one station.
 ghost use Rattle.std.specs.Prelude.{◌≡◌};
 ghost use Rattle.stations.specs.GoesOn.{GoesOn, GoesOnFrom, beginning_of};
-ghost use Rattle.stations.specs.OneRun.{BorrowsSame, HasAnswered, IsCounted};
+ghost use Rattle.stations.specs.OneRun.{BorrowsSame, HasAnsweredLines, IsCounted};
 
 use crate::session_desk::{Began, SessionDesk};
 use crate::station_text::StationText;
@@ -21,9 +21,9 @@ use std::sync::ledger::Ledger;
 pub struct Serving<'r, 'w, 't, R, V> {
     /// The runtime, which lets it wait.
     pub rt: &'r R,
-    /// What sees how the run goes on.
+    /// What is called as the run goes on.
     pub watch: &'w V,
-    /// The text of its listing, which counts until it is written.
+    /// The text of its listing, which is counted until it is written.
     pub text: &'t StationText<'t, 'r, R>,
     /// The figures of the service.
     pub service: &'t ServiceFigures,
@@ -53,12 +53,13 @@ pub fn run_session<
     session: Session<J>,
 ) -> (Session<J>, Result<Ran, RunFault>)
     // How the lines were answered, over any reader and any writer too, and why the run ended.
-    ensures lines { HasAnswered J.base I.remaining O.contents serving.now.orders serving.now.turns session input.old input.new output.old output.new result }
+    ensures lines { HasAnsweredLines J.base I.remaining O.contents serving.now.orders serving.now.turns
+        session input.old input.new output.old output.new result }
     // The session that comes back.
     ensures goes_on { GoesOnFrom serving.now.orders (beginning_of session) result.0 }
     // How often the reader was called, and when each fault comes.
     ensures counts { IsCounted serving.now.turns session input.old input.new output.old output.new result }
-    // The input and the output still borrow all that they were given.
+    // The input and the output borrow the same as before.
     ensures borrows { BorrowsSame input.old input.new output.old output.new }
 {
     run_begun::<Brand, J, R, V, I, O, L, F, G>(serving, input, output, session)
@@ -83,7 +84,8 @@ fn run_begun<
 ) -> (Session<J>, Result<Ran, RunFault>)
     requires goes_on { GoesOn K.may_order K.began session }
     requires orders { serving.now.orders ≡ K.may_order }
-    ensures lines { HasAnswered J.base I.remaining O.contents serving.now.orders serving.now.turns session input.old input.new output.old output.new result }
+    ensures lines { HasAnsweredLines J.base I.remaining O.contents serving.now.orders serving.now.turns
+        session input.old input.new output.old output.new result }
     ensures goes_on { GoesOn K.may_order K.began result.0 }
     ensures counts { IsCounted serving.now.turns session input.old input.new output.old output.new result }
     ensures borrows { BorrowsSame input.old input.new output.old output.new }

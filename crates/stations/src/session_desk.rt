@@ -96,7 +96,7 @@ impl<'r, 'w, 't, K: Began, J: Centre, R: Wait, V: Watch> SessionDesk<'r, 'w, 't,
         }
     }
 
-    // Shows what a command is answered, and counts the reply, if there is one.
+    // Shows the watch the answer to a command, and counts the reply, if there is one.
     fn show(&self, replied: &Result<Reply<Global>, Outage>, counts: &mut ReplyCounts)
         ensures { counts.new ≡ with_result counts.old replied.now }
     {
@@ -105,9 +105,9 @@ impl<'r, 'w, 't, K: Began, J: Centre, R: Wait, V: Watch> SessionDesk<'r, 'w, 't,
             counts.add(reply);
         }
         if is_failure(replied) {
-            self.watch.failed(station);
+            self.watch.before_failure(station);
         }
-        self.watch.answered(station, accepts(replied));
+        self.watch.after_answer(station, accepts(replied));
     }
 
     /// The session.
@@ -119,7 +119,7 @@ impl<'r, 'w, 't, K: Began, J: Centre, R: Wait, V: Watch> SessionDesk<'r, 'w, 't,
     }
 }
 
-// Whether a command is answered so once the device has failed.
+// Whether the result is `device` or `broken`. Once the device has failed, a command is answered so.
 fn is_failure(replied: &Result<Reply<Global>, Outage>) -> bool
     ensures { result ≡ is_failure replied.now }
 {
@@ -390,13 +390,13 @@ impl<'r, 'w, 't, K: Began, J: Centre, R: Wait + Clock, V: Watch> Desk<Global>
 
     fn query(&mut self, alloc: Global, query: &Query) -> Result<QueryAnswer<Global>, Outage> {
         let query_answer = read(&mut self.session, alloc, query);
-        self.watch.answered(self.session.station(), false);
+        self.watch.after_answer(self.session.station(), false);
         query_answer
     }
 
     fn list(&mut self, listing: &Listing, out: &mut Vec<u8, Global>) -> Result<(), Outage> {
         let listed = list::<K, J, R>(self.text, &mut self.session, listing, out);
-        self.watch.answered(self.session.station(), false);
+        self.watch.after_answer(self.session.station(), false);
         listed
     }
 }

@@ -5,7 +5,7 @@ ghost use Rattle.stations.specs.Inside.Answered.{AnswersJob, AnswersLines};
 ghost use Rattle.stations.specs.Inside.Ledgers.{MakesLedger};
 
 use crate::job::{Done, Job};
-use crate::listing_gate::ListingGate;
+use crate::listing_bound::ListingBound;
 use crate::one_station::{Serving, run_session};
 use crate::port::Port;
 use crate::round_gate::RoundGate;
@@ -35,7 +35,7 @@ pub(crate) struct Shared<'r, 'w, R: Wait, V: Watch> {
     /// The last station for which no thread could be made; 0 if there was none.
     pub(crate) refused: AtomicU64,
     /// What bounds their listings.
-    pub(crate) gate: ListingGate,
+    pub(crate) bound: ListingBound,
     /// The figures of the service.
     pub(crate) service: ServiceFigures,
     /// How often its disk was synced.
@@ -188,7 +188,7 @@ fn run_port<J: Centre, R: Wait + Clock, V: Watch, I: Read + Drop, O: Write + Dro
         port,
     } = job;
     let Port { mut reader, writer } = port;
-    let text = StationText::new(&shared.gate, shared.rt);
+    let text = StationText::new(&shared.bound, shared.rt);
     let mut writer = ReportingWriter::new(writer, &text);
     let is_refused = shared.is_refused(session.station());
     let serving = shared.serving(orders, turns, &text);
@@ -219,7 +219,7 @@ pub(crate) fn serve<J: Centre, R: Wait + Clock, V: Watch, I: Read + Drop, O: Wri
     let (session, run) = run_port(shared, job);
     let station = session.station();
     let watch = shared.watch;
-    watch.ended(station, &run.ran);
+    watch.after_run(station, &run.ran);
     watch.before_entry(station);
     let ended = session.finish(shared.rt);
     watch.after_entry(station);

@@ -38,26 +38,26 @@ pub(crate) type Begun<J, I, O> = Result<
 >;
 
 /// A flusher that may be dropped. Its store is then dropped too.
-pub(crate) struct Held<'r, R: Wait, J: Centre, D: Disk + Drop> {
+pub(crate) struct DroppableFlusher<'r, R: Wait, J: Centre, D: Disk + Drop> {
     pub(crate) flusher: Flusher<J, D>,
     pub(crate) rt: &'r R,
 }
 
-impl<'r, R: Wait, J: Centre, D: Disk + Drop> Drop for Held<'r, R, J, D> {
+impl<'r, R: Wait, J: Centre, D: Disk + Drop> Drop for DroppableFlusher<'r, R, J, D> {
     fn drop(self) {
-        let Held { flusher, rt } = self;
+        let DroppableFlusher { flusher, rt } = self;
         drop(flusher.abandon(rt));
     }
 }
 
-impl<'r, R: Wait, J: Centre, D: Disk + Drop> Held<'r, R, J, D> {
+impl<'r, R: Wait, J: Centre, D: Disk + Drop> DroppableFlusher<'r, R, J, D> {
     ghost use Rattle.std.specs.Prelude.{◌≡◌};
 
     /// The flusher.
     pub(crate) fn into_flusher(self) -> Flusher<J, D>
         ensures { result ≡ self.entry.flusher }
     {
-        let Held { flusher, rt: _ } = self;
+        let DroppableFlusher { flusher, rt: _ } = self;
         flusher
     }
 }
@@ -195,10 +195,10 @@ fn serve_held<
 >(
     scope: &Scope<'s, E>,
     shared: &'s Shared<'s, 's, R, V>,
-    mut held: Held<'r, R, J, D>,
+    mut held: DroppableFlusher<'r, R, J, D>,
     jobs: Vec<Job<J, I, O>>,
     room: ThreadRoom<J, I, O>,
-) -> (Held<'r, R, J, D>, Vec<Done<J, I, O>>)
+) -> (DroppableFlusher<'r, R, J, D>, Vec<Done<J, I, O>>)
     requires settled { IsSettled J.base (view_of held.flusher) }
     requires room { vec_len jobs ≤ room.stations }
     ensures flushed { HasFlushed D.view J.base (view_of held.entry.flusher) (view_of result.0.flusher) }
@@ -220,10 +220,10 @@ pub(crate) fn serve_all<
     O: Write + Send + Drop,
 >(
     shared: &Shared<R, V>,
-    held: Held<'r, R, J, D>,
+    held: DroppableFlusher<'r, R, J, D>,
     jobs: Vec<Job<J, I, O>>,
     room: ThreadRoom<J, I, O>,
-) -> (Held<'r, R, J, D>, Vec<Done<J, I, O>>)
+) -> (DroppableFlusher<'r, R, J, D>, Vec<Done<J, I, O>>)
     requires settled { IsSettled J.base (view_of held.flusher) }
     requires room { vec_len jobs ≤ room.stations }
     ensures flushed { HasFlushed D.view J.base (view_of held.entry.flusher) (view_of result.0.flusher) }
@@ -232,7 +232,7 @@ pub(crate) fn serve_all<
     thread::scope(
         thread::scope_env(),
         shared.rt,
-        move |scope| -> (Held<R, J, D>, Vec<Done<J, I, O>>)
+        move |scope| -> (DroppableFlusher<R, J, D>, Vec<Done<J, I, O>>)
             requires { IsSettled J.base (view_of held.flusher) × (vec_len jobs ≤ room.stations) }
             ensures { HasFlushed D.view J.base (view_of held.entry.flusher) (view_of result.0.flusher)
                 × AreDone J J.base I.remaining O.contents jobs.items result.1.items }

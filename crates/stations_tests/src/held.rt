@@ -55,13 +55,13 @@ impl Watch for Stages {
 
     fn after_entry(&self, _station: Station) {}
 
-    fn answered(&self, _station: Station, _is_accepted: bool) {
+    fn after_answer(&self, _station: Station, _is_accepted: bool) {
         self.shown.fetch_add(1, Ordering::SeqCst);
     }
 
-    fn failed(&self, _station: Station) {}
+    fn before_failure(&self, _station: Station) {}
 
-    fn ended(&self, _station: Station, _ran: &Result<Ran, RunFault>) {}
+    fn after_run(&self, _station: Station, _ran: &Result<Ran, RunFault>) {}
 }
 
 // What a reader does at its first call.

@@ -126,15 +126,15 @@ impl Watch for Shown {
         self.of(station).add(2);
     }
 
-    fn answered(&self, station: Station, is_accepted: bool) {
+    fn after_answer(&self, station: Station, is_accepted: bool) {
         if is_accepted {
             self.of(station).add(3);
         }
     }
 
-    fn failed(&self, _station: Station) {}
+    fn before_failure(&self, _station: Station) {}
 
-    fn ended(&self, station: Station, _ran: &Result<Ran, RunFault>) {
+    fn after_run(&self, station: Station, _ran: &Result<Ran, RunFault>) {
         self.of(station).add(4);
     }
 }

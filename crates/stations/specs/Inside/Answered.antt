@@ -15,8 +15,8 @@ use Rattle.stations.specs.declared.job.Job.{Job}
 use Rattle.stations.specs.declared.station_run.StationRun.{StationRun}
 
 module _ {J : Type 0} (base : State) where
-  -- This session, which may give orders or may not, answered lines, by at most so many calls of its reader. Given are what the reader had left;
-  -- what the writer held before and holds after; and the session before. The result is the session after, how the run ended, and what passed in it.
+  -- The session answered lines, by at most `turns` calls of its reader. Its station may give orders if `orders` is true. The reader had `unread`
+  -- left. The writer held `before`, and holds `after`. The result is the session after the run, how the run ended, and what passed in it.
   pub record AnswersLines {I O : Type 0} (orders : Bool) (turns : ℕ) (unread before after : Option (List Byte)) (session : Session J)
       (result : Session J × Result Ran RunFault × Passed I O) : Type 0 where
     pub answers : IsRunOf J base (record { station = session.sender.station; orders = orders }) unread before (view_of session) (view_of result.0) after result.1

@@ -10,8 +10,8 @@ use std::time::Duration;
 /// After a listing no other begins for so many times as long as it took.
 const REST: u64 = 9;
 
-/// Of the time that a listing took, at most so many nanoseconds count. So no rest is longer than nine tenths of a second, also
-/// where the machine is busy and the clock goes on.
+/// Of the time that a listing took, at most so many nanoseconds count. So no rest is longer than nine tenths of a second, even
+/// on a busy machine.
 const MOST_COUNTED: u64 = 100_000_000;
 
 /// A text beside two others or more is kept only if those take at most so many bytes.
@@ -62,7 +62,7 @@ impl Unwritten {
     }
 
     // Counts a text of so many bytes, if one more may be kept, and returns whether it may.
-    fn keep(&mut self, bytes: u64) -> bool
+    fn add_if_room(&mut self, bytes: u64) -> bool
         ensures may { IsTrue result ↔ MayKeep self.old.texts self.old.bytes }
         ensures counted { result ≡ true
             → (self.new.texts ≡ min (self.old.texts + 1) (2 ^ 64 - 1)) × (self.new.bytes ≡ min (self.old.bytes + bytes) (2 ^ 64 - 1)) }
@@ -76,7 +76,7 @@ impl Unwritten {
         true
     }
 
-    // A text of so many bytes counts no more.
+    // Stops counting a text of so many bytes.
     fn remove(&mut self, bytes: u64)
         ensures texts { self.new.texts ≡ self.old.texts - 1 }
         ensures bytes { self.new.bytes ≡ self.old.bytes - bytes }
@@ -103,14 +103,14 @@ fn moment<R: Clock>(rt: &R) -> Option<u64> {
     u64::try_from(rt.monotonic().ok()?.as_nanos()).ok()
 }
 
-/// Bounds the listings that walk through tables, over all stations of a run. Only one station lists at a time, and then none for nine times as long:
-/// so the flusher, which waits for whoever reads the older copy, waits for a tenth of the time at most. Of the listings that nobody
-/// reads yet, two texts are kept, or as many as take 4 MiB and one text more.
+/// Bounds the listings that walk through tables, over all stations of a run. Only one station lists at a time, and then none for nine times
+/// as long. The flusher waits while a station reads the older copy: so it waits for a tenth of the time at most. Of the texts that are not
+/// written yet, two are kept, or as many as take 4 MiB and one text more.
 ///
 /// All threads change what it counts, so no contract says what `enter`, `add` and `remove` leave there: tests do.
 #[derive(Drop)]
-pub struct ListingGate {
-    /// Whether other stations are served beside one that lists. Else nobody waits.
+pub struct ListingBound {
+    /// Whether the run has more than one station. If not, no listing waits for a rest.
     is_shared: bool,
     /// The moment from which the next listing may begin. Whoever lists has the lock.
     opens: Mutex<u64>,
@@ -126,12 +126,12 @@ pub(crate) struct Turn<'g> {
     began: Option<u64>,
 }
 
-impl ListingGate {
-    /// The gate of a run of this many stations.
-    pub(crate) fn new(stations: usize) -> ListingGate
+impl ListingBound {
+    /// The bound of a run of this many stations.
+    pub(crate) fn new(stations: usize) -> ListingBound
         ensures { IsTrue result.is_shared ↔ (1 < stations) }
     {
-        ListingGate {
+        ListingBound {
             is_shared: stations > 1,
             opens: Mutex::new(0),
             unwritten: Mutex::new(Unwritten::new()),
@@ -156,10 +156,10 @@ impl ListingGate {
     /// Counts a text of so many bytes until `remove`, if it may be kept. It returns whether it may.
     pub(crate) fn add<R: Wait>(&self, rt: &R, bytes: u64) -> bool {
         let mut guard = self.unwritten.lock(rt);
-        guard.keep(bytes)
+        guard.add_if_room(bytes)
     }
 
-    /// A text of so many bytes is written, or dropped.
+    /// Stops counting a text of so many bytes: it is written, or dropped.
     pub(crate) fn remove<R: Wait>(&self, rt: &R, bytes: u64) {
         let mut guard = self.unwritten.lock(rt);
         guard.remove(bytes);
@@ -167,7 +167,7 @@ impl ListingGate {
 }
 
 impl<'g> Turn<'g> {
-    /// Ends the turn. The rest begins.
+    /// Ends the turn, and begins the rest.
     pub(crate) fn leave<R: Clock>(self, rt: &R) {
         let Turn {
             is_shared,
