@@ -28,8 +28,8 @@ abbrev pub HasNoFeed : List Byte → Type 0
 HasNoFeed line = Lacks 10 line
 
 -- no line that can be taken has more bytes
-abbrev pub longest_line : ℕ
-longest_line = 4096
+abbrev pub longest_dump_line : ℕ
+longest_dump_line = 4096
 
 -- why a line longer than that can't be taken, by whether the first line was taken
 abbrev pub long_cause : Bool → Cause
@@ -54,7 +54,7 @@ cut_or_long n t false = Err (fault.Line n (long_cause t.headed))
 -- what follows the last line feed: nothing, or the first bytes of line n
 abbrev pub end_read : ℕ → TextLoading → List Byte → Result State LoadFault
 end_read n t [] = or_cut n (text_finished t)
-end_read n t (b ∷ part) = cut_or_long n t (nat_le (length (b ∷ part)) longest_line)
+end_read n t (b ∷ part) = cut_or_long n t (nat_le (length (b ∷ part)) longest_dump_line)
 
 -- the lines from line n on, and what follows the last line feed
 abbrev pub parts_read : ℕ → TextLoading → List (List Byte) → Result State LoadFault

@@ -5,7 +5,7 @@ use Rattle.centre_core.specs.State.{State}
 use Rattle.image_rows.specs.Loading.{◌>>=◌, Loading}
 use Rattle.image_rows.specs.RowReading.{row_in}
 use Rattle.register_text.specs.Text.{stated_taken}
-use Rattle.register_text.specs.Dump.{HasNoFeed, longest_line, text_from}
+use Rattle.register_text.specs.Dump.{HasNoFeed, longest_dump_line, text_from}
 use Rattle.register_text.specs.Passing.{HavePassed}
 use Rattle.register_text.specs.declared.dumping.DumpFault.{DumpFault}
 use Rattle.register_text.specs.declared.dumping.DumpFault.TheVariants.{Write}
@@ -14,8 +14,8 @@ use Rattle.register_text.specs.declared.load_fault.LoadFault.{LoadFault}
 use Rattle.register_text.specs.declared.load_fault.LoadFault.TheVariants as load
 
 -- these bytes may be kept of a line whose line feed has not come
-abbrev pub IsKept : List Byte → Type 0
-IsKept line = HasNoFeed line × (length line ≤ longest_line)
+abbrev pub IsLineSoFar : List Byte → Type 0
+IsLineSoFar line = HasNoFeed line × (length line ≤ longest_dump_line)
 
 -- what the text makes, if these bytes of it are left
 abbrev pub outcome : {A : Type 0} → Reading A → List Byte → Result State LoadFault
