@@ -10,9 +10,12 @@ use Rattle.console.proofs.Splits.{IsNonempty, is_feed, split_nonempty}
 use Rattle.register_text.specs.declared.cause.Cause.{Cause}
 use Rattle.register_text.specs.declared.load_fault.LoadFault.{LoadFault}
 use Rattle.register_text.specs.declared.load_fault.LoadFault.TheVariants as fault
+use Rattle.register_text.specs.declared.loader.TakeFault.{TakeFault}
+use Rattle.register_text.specs.declared.loader.TakeFault.TheVariants as take
 use Rattle.register_text.specs.Text.{TextLoading, line_taken}
 use Rattle.register_text.specs.Dump.{HasNoFeed, IsLoadFault, cut_or_long, end_read, long_cause, longest_dump_line, parts_read, text_from, then_line}
-use Rattle.register_text.specs.Inside.Going.{IsLineSoFar}
+use Rattle.register_text.specs.Faults.{IsFault}
+use Rattle.register_text.specs.Inside.Going.{IsLineSoFar, IsOfLine, fault_of_line}
 use Rattle.register_text.proofs.Widths.{long_refused}
 
 -- what holds wherever it is known
@@ -43,8 +46,19 @@ module _ (n : ℕ) (t : TextLoading) (line end whole left : List ℕ) (kept : Is
   pub line_made : (u : TextLoading) → line_taken t whole ≡ Ok u → text_from n t (line ++ (end ++ 10 ∷ left)) ≡ text_from (n + 1) u left
   line_made u e = whole_step ∙ ap (λ (r : Result TextLoading Cause). then_line n r (λ u. text_from (n + 1) u left)) e
 
-  pub line_refused : (cause : Cause) → line_taken t whole ≡ Err cause → text_from n t (line ++ (end ++ 10 ∷ left)) ≡ Err (fault.Line n cause)
-  line_refused cause e = whole_step ∙ ap (λ (r : Result TextLoading Cause). then_line n r (λ u. text_from (n + 1) u left)) e
+  by_cause : (cause : Cause) → line_taken t whole ≡ Err cause → text_from n t (line ++ (end ++ 10 ∷ left)) ≡ Err (fault.Line n cause)
+  by_cause cause e = whole_step ∙ ap (λ (r : Result TextLoading Cause). then_line n r (λ u. text_from (n + 1) u left)) e
+
+  by_fault : (why : TakeFault) → IsFault (line_taken t whole) why → IsLoadFault (text_from n t (line ++ (end ++ 10 ∷ left))) (fault_of_line n why)
+  by_fault take.Memory is_so = tt
+  by_fault (take.Line cause) is_so = by_cause cause is_so
+
+  pub line_refused : (why : TakeFault) (fault : LoadFault) → fault ≡ fault_of_line n why → IsFault (line_taken t whole) why → IsLoadFault (text_from n t (line ++ (end ++ 10 ∷ left))) fault
+  line_refused why fault same is_so = subst (λ (f : LoadFault). IsLoadFault (text_from n t (line ++ (end ++ 10 ∷ left))) f) (sym same) (by_fault why is_so)
+
+pub of_line : (n : ℕ) (why : TakeFault) → IsOfLine (fault_of_line n why)
+of_line n take.Memory = tt
+of_line n (take.Line cause) = tt
 
 -- ---- a line that is too long
 

@@ -1,5 +1,5 @@
 -- What passed between a text and its reader or writer.
-use Rattle.std.proofs.Common.{◌≡◌, ℕ, zero, suc, ◌+◌, ◌≤◌, List, [], ◌∷◌, ◌++◌, length, Option, None, Some, Result, Ok, Err, IfErr, OnOk, refl, sym, ap, subst, ◌∙◌, append_assoc, arith, true}
+use Rattle.std.proofs.Common.{◌≡◌, ℕ, zero, suc, ◌+◌, ◌≤◌, List, [], ◌∷◌, ◌++◌, length, Option, None, Some, Result, Ok, Err, IfErr, OnOk, refl, sym, ap, inl, inr, subst, ◌∙◌, append_assoc, arith, true}
 use Rattle.std.proofs.lemmas.List.{append-nil}
 use Rattle.std.specs.Prelude.{nat_le}
 use Rattle.centre_core.specs.State.{State}
@@ -126,21 +126,21 @@ module _ {S : Type 0} (Gave : S → List ℕ → S → Type 0) (Ended Failed : S
   -- what two texts make alike
   pub unread_alike : (made same : List ℕ → Result State LoadFault) → ((text : List ℕ) → made text ≡ same text) → (a b : S) (fault : LoadFault)
       → IsUnread Gave Ended Failed made a b fault → IsUnread Gave Ended Failed same a b fault
-  unread_alike made same alike a b load.Memory (k, text, piece, had, short, good) = (k, text, piece, had, short, subst HasNoBadLine (alike text) good)
+  unread_alike made same alike a b load.Memory (k, last, text, had, once, good) = (k, last, text, had, once, subst HasNoBadLine (alike text) good)
   unread_alike made same alike a b load.Read (text, had, good) = (text, had, subst HasNoBadLine (alike text) good)
   unread_alike made same alike a b (load.Line n cause) (k, text, had, is) = (k, text, had, λ left. sym (alike (text ++ left)) ∙ is left)
   unread_alike made same alike a b (load.Cut n) (text, whole, is) = (text, whole, sym (alike text) ∙ is)
 
   -- nothing was read
   pub never_read : (made : List ℕ → Result State LoadFault) (a : S) → HasNoBadLine (made []) → IsUnread Gave Ended Failed made a a load.Memory
-  never_read made a good = (0, [], [], none_passed Gave a, omega arith, good)
+  never_read made a good = (0, a, [], none_passed Gave a, inl refl, good)
 
   -- a fault of the piece that came last
   pub piece_unread : (made then_ : List ℕ → Result State LoadFault) (k : ℕ) (a b c : S) (text piece : List ℕ) (fault : LoadFault)
       → HavePassed Gave k a text b → Gave b piece c → length piece ≤ most_given → HasNoBadLine (then_ []) → ((left : List ℕ) → made (text ++ left) ≡ then_ left)
       → IsOfLine fault → ((left : List ℕ) → IsLoadFault (then_ (piece ++ left)) fault) → IsUnread Gave Ended Failed made a c fault
   piece_unread made then_ k a b c text piece load.Memory had gave short good goes kind said =
-      (k + 1, text, piece, one_more Gave k a b c text piece had gave, short, subst HasNoBadLine (sym (goes []) ∙ ap made (append-nil text)) good)
+      (k, b, text, had, inr (piece, gave, short), subst HasNoBadLine (sym (goes []) ∙ ap made (append-nil text)) good)
   piece_unread made then_ k a b c text piece load.Read had gave short good goes kind said = absurd kind
   piece_unread made then_ k a b c text piece (load.Line n cause) had gave short good goes kind said =
       (k + 1, text ++ piece, one_more Gave k a b c text piece had gave, λ left. ap made (append_assoc text piece left) ∙ goes (piece ++ left) ∙ said left)

@@ -2,7 +2,7 @@
 ghost use Rattle.std.specs.Prelude.{◌≡◌, ◌≤◌, ◌<◌, ◌+◌, ◌-◌, ◌^◌, ◌++◌, ◌∷◌, [], List, ℕ, length, take, drop};
 ghost use Rattle.std.specs.Prelude.{slice_get, MatchOption, IfErr, IfOk, OnOk, IfSome, Ok, Some};
 ghost use Rattle.register_text.specs.Dump.{HasNoFeed, IsAll, IsLoadFault, long_cause, longest_dump_line, text_read};
-ghost use Rattle.register_text.specs.Inside.Going.{IsLineSoFar, IsOfLine, outcome};
+ghost use Rattle.register_text.specs.Inside.Going.{IsLineSoFar, IsOfLine, fault_of_line, outcome};
 ghost use Rattle.register_text.specs.Passing.{IsUnread, IsWhole};
 
 use crate::TextSource;
@@ -49,6 +49,16 @@ fn long_cause(is_headed: bool) -> Cause
     }
 }
 
+// Why the text is not read, if the line of this number is not taken.
+fn fault_of_line(number: u64, fault: TakeFault) -> LoadFault
+    ensures { result ≡ fault_of_line number fault }
+{
+    match fault {
+        TakeFault::Memory => LoadFault::Memory,
+        TakeFault::Line(cause) => LoadFault::Line(number, cause),
+    }
+}
+
 impl<A: Allocator + Clone> Reading<A> {
     #[tactic(auto, using(crate::proofs::Parts::none_kept))]
     fn new(alloc: A, limits: Limits) -> Result<Self, AllocError>
@@ -64,7 +74,7 @@ impl<A: Allocator + Clone> Reading<A> {
     }
 
     // Takes the line that ends with these bytes.
-    #[tactic(auto, using(crate::proofs::Parts::line_made, crate::proofs::Parts::line_refused, crate::proofs::Parts::none_kept))]
+    #[tactic(auto, using(crate::proofs::Parts::line_made, crate::proofs::Parts::line_refused, crate::proofs::Parts::of_line, crate::proofs::Parts::none_kept))]
     fn take_line(&mut self, end: &[u8]) -> Result<(), LoadFault>
         requires room { self.old.number + 1 < 2 ^ 64 }
         requires kept { IsLineSoFar self.old.line.items }
@@ -78,17 +88,15 @@ impl<A: Allocator + Clone> Reading<A> {
         let Ok(()) = self.line.extend_from_slice(end) else {
             return Err(LoadFault::Memory);
         };
-        match self.loader.take(&self.line) {
-            Ok(()) => {}
-            Err(TakeFault::Memory) => return Err(LoadFault::Memory),
-            Err(TakeFault::Line(cause)) => return Err(LoadFault::Line(self.number, cause)),
+        if let Err(fault) = self.loader.take(&self.line) {
+            return Err(fault_of_line(self.number, fault));
         }
         self.line.clear();
         self.number += 1;
         Ok(())
     }
 
-    // Keeps bytes of a line that goes on after them.
+    // Adds bytes to the line so far, which goes on after them.
     #[tactic(auto, using(crate::proofs::Parts::long_line, crate::proofs::Parts::kept_more, crate::proofs::Parts::is_kept))]
     fn add_to_line(&mut self, part: &[u8]) -> Result<(), LoadFault>
         requires kept { IsLineSoFar self.old.line.items }
@@ -177,7 +185,7 @@ impl<A: Allocator + Clone> Reading<A> {
 /// # Errors
 /// `Line` and `Cut` for the first fault of the text. `Read` only if the reader failed, or gave no end in 4,294,967,295 calls, and no line
 /// of what it gave is at fault. `Memory` only before the reader's end, and only if no line is at fault in what it gave before its last
-/// piece, of at most 65,536 bytes.
+/// call. One call gives at most 65,536 bytes.
 pub fn read_register<A: Allocator + Clone, R: TextSource>(
     alloc: A,
     limits: Limits,
