@@ -14,7 +14,7 @@ use Rattle.image_rows.specs.Rows.{Row, rows_of}
 use Rattle.register_text.specs.Lines.{row_line, IsLineRow}
 use Rattle.register_text.specs.Text.{TextLoading, IsUnder, head_line, head_taken, line_taken, lines_taken, or_place, or_spelling, register_lines}
 use Rattle.register_text.specs.Text.{state_of, text_begun, text_finished, then_lines, whole}
-use Rattle.register_text.specs.Dump.{HasNoFeed, IsTextOf, cut_or_long, end_read, ended, long_cause, longest_line, or_cut, parts_read, register_bytes, text_from, text_read, then_line}
+use Rattle.register_text.specs.Dump.{HasNoFeed, IsTextOf, cut_or_long, end_read, ended, long_cause, longest_dump_line, or_cut, parts_read, register_bytes, text_from, text_read, then_line}
 use Rattle.register_text.specs.declared.cause.Cause.{Cause}
 use Rattle.register_text.specs.declared.cause.Cause.TheVariants as cause
 use Rattle.register_text.specs.declared.load_fault.LoadFault.{LoadFault}
@@ -165,7 +165,7 @@ record AreRead (n : ℕ) (t : TextLoading) (parts : List (List ℕ)) (s : State)
 
 end_only : (n : ℕ) (t : TextLoading) (end : List ℕ) (s : State) → end_read n t end ≡ Ok s → AreRead n t (end ∷ []) s
 end_only n t [] s e = record { lines = []; are = refl; made = finished_is n (text_finished t) s e }
-end_only n t (b ∷ part) s e = by (nat_le (length (b ∷ part)) longest_line) e
+end_only n t (b ∷ part) s e = by (nat_le (length (b ∷ part)) longest_dump_line) e
   where
     by : (v : Bool) → cut_or_long n t v ≡ Ok s → AreRead n t ((b ∷ part) ∷ []) s
     by true e = no_result (fault.Cut n) s e

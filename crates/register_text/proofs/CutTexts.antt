@@ -13,7 +13,7 @@ use Rattle.image_rows.proofs.Exactly.{bind_some}
 use Rattle.register_text.specs.Reading.{line_row}
 use Rattle.register_text.specs.Text.{TextLoading, count_after, count_in, count_taken, head_in, head_taken, is_as_stated, is_head, is_same, line_taken}
 use Rattle.register_text.specs.Text.{line_taken_by, or_place, or_spelling, state_of, stated_taken, text_begun}
-use Rattle.register_text.specs.Dump.{IsOfPlace, cut_or_long, end_read, longest_line, or_cut, parts_read, register_bytes, text_from, text_read, then_line}
+use Rattle.register_text.specs.Dump.{IsOfPlace, cut_or_long, end_read, longest_dump_line, or_cut, parts_read, register_bytes, text_from, text_read, then_line}
 use Rattle.register_text.specs.Cut.{IsCutAt, are_cut, due_after, is_cut, is_cut_by, is_due, parts_of}
 use Rattle.register_text.specs.declared.cause.Cause.{Cause}
 use Rattle.register_text.specs.declared.cause.Cause.TheVariants as cause
@@ -163,7 +163,7 @@ long_agrees n t false = tt
 
 end_agrees : (n : ℕ) (t : TextLoading) (due : Option ℕ) (end : List ℕ) → Stands due t → Agrees (end_read n t end) n (is_cut_by due end)
 end_agrees n t due [] is = finished_agrees n due t.rows.header t.rows.state is.rows
-end_agrees n t due (b ∷ part) is = long_agrees n t (nat_le (length (b ∷ part)) longest_line)
+end_agrees n t due (b ∷ part) is = long_agrees n t (nat_le (length (b ∷ part)) longest_dump_line)
 
 then_agrees : (n m : ℕ) (due : Option ℕ) (t : TextLoading) (line next : List ℕ) (parts : List (List ℕ)) (r : Result TextLoading Cause) → line_taken t line ≡ r → Stands due t
     → ((u : TextLoading) → Stands (due_after due (line_row line)) u → Agrees (parts_read (n + 1) u (next ∷ parts)) m (are_cut (due_after due (line_row line)) (next ∷ parts)))

@@ -10,9 +10,12 @@ use Rattle.console.proofs.Splits.{IsNonempty, is_feed, split_nonempty}
 use Rattle.register_text.specs.declared.cause.Cause.{Cause}
 use Rattle.register_text.specs.declared.load_fault.LoadFault.{LoadFault}
 use Rattle.register_text.specs.declared.load_fault.LoadFault.TheVariants as fault
+use Rattle.register_text.specs.declared.loader.TakeFault.{TakeFault}
+use Rattle.register_text.specs.declared.loader.TakeFault.TheVariants as take
 use Rattle.register_text.specs.Text.{TextLoading, line_taken}
-use Rattle.register_text.specs.Dump.{HasNoFeed, IsLoadFault, cut_or_long, end_read, long_cause, longest_line, parts_read, text_from, then_line}
-use Rattle.register_text.specs.Inside.Going.{IsKept}
+use Rattle.register_text.specs.Dump.{HasNoFeed, IsLoadFault, cut_or_long, end_read, long_cause, longest_dump_line, parts_read, text_from, then_line}
+use Rattle.register_text.specs.Faults.{IsFault}
+use Rattle.register_text.specs.Inside.Going.{IsLineSoFar, IsOfLine, fault_of_line}
 use Rattle.register_text.proofs.Widths.{long_refused}
 
 -- what holds wherever it is known
@@ -33,7 +36,7 @@ pub line_step : (n : ℕ) (t : TextLoading) (line left : List ℕ) → HasNoFeed
 unfolding text_from
 line_step n t line left none = ap (parts_read n t) (slice_split_at is_feed line 10 left none refl) ∙ line_of_parts n t line (slice_split is_feed left) (split_nonempty is_feed left)
 
-module _ (n : ℕ) (t : TextLoading) (line end whole left : List ℕ) (kept : IsKept line) (plain : HasNoFeed end) (is : whole ≡ line ++ end) where
+module _ (n : ℕ) (t : TextLoading) (line end whole left : List ℕ) (kept : IsLineSoFar line) (plain : HasNoFeed end) (is : whole ≡ line ++ end) where
   whole_step : text_from n t (line ++ (end ++ 10 ∷ left)) ≡ then_line n (line_taken t whole) (λ u. text_from (n + 1) u left)
   whole_step =
       ap (text_from n t) (sym (append_assoc line end (10 ∷ left)))
@@ -43,18 +46,29 @@ module _ (n : ℕ) (t : TextLoading) (line end whole left : List ℕ) (kept : Is
   pub line_made : (u : TextLoading) → line_taken t whole ≡ Ok u → text_from n t (line ++ (end ++ 10 ∷ left)) ≡ text_from (n + 1) u left
   line_made u e = whole_step ∙ ap (λ (r : Result TextLoading Cause). then_line n r (λ u. text_from (n + 1) u left)) e
 
-  pub line_refused : (cause : Cause) → line_taken t whole ≡ Err cause → text_from n t (line ++ (end ++ 10 ∷ left)) ≡ Err (fault.Line n cause)
-  line_refused cause e = whole_step ∙ ap (λ (r : Result TextLoading Cause). then_line n r (λ u. text_from (n + 1) u left)) e
+  by_cause : (cause : Cause) → line_taken t whole ≡ Err cause → text_from n t (line ++ (end ++ 10 ∷ left)) ≡ Err (fault.Line n cause)
+  by_cause cause e = whole_step ∙ ap (λ (r : Result TextLoading Cause). then_line n r (λ u. text_from (n + 1) u left)) e
+
+  by_fault : (why : TakeFault) → IsFault (line_taken t whole) why → IsLoadFault (text_from n t (line ++ (end ++ 10 ∷ left))) (fault_of_line n why)
+  by_fault take.Memory is_so = tt
+  by_fault (take.Line cause) is_so = by_cause cause is_so
+
+  pub line_refused : (why : TakeFault) (fault : LoadFault) → fault ≡ fault_of_line n why → IsFault (line_taken t whole) why → IsLoadFault (text_from n t (line ++ (end ++ 10 ∷ left))) fault
+  line_refused why fault same is_so = subst (λ (f : LoadFault). IsLoadFault (text_from n t (line ++ (end ++ 10 ∷ left))) f) (sym same) (by_fault why is_so)
+
+pub of_line : (n : ℕ) (why : TakeFault) → IsOfLine (fault_of_line n why)
+of_line n take.Memory = tt
+of_line n (take.Line cause) = tt
 
 -- ---- a line that is too long
 
-long_end : (n : ℕ) (t : TextLoading) (text : List ℕ) → longest_line < length text → end_read n t text ≡ Err (fault.Line n (long_cause t.headed))
+long_end : (n : ℕ) (t : TextLoading) (text : List ℕ) → longest_dump_line < length text → end_read n t text ≡ Err (fault.Line n (long_cause t.headed))
 long_end n t [] long = absurd (omega (arith, long))
 long_end n t (b ∷ part) long =
-    let no : nat_le (length (b ∷ part)) longest_line ≡ false = grind (arith, long) in
+    let no : nat_le (length (b ∷ part)) longest_dump_line ≡ false = grind (arith, long) in
     ap (cut_or_long n t) no
 
-long_parts : (n : ℕ) (t : TextLoading) (line : List ℕ) (parts : List (List ℕ)) → longest_line < length line → parts_read n t (line ∷ parts) ≡ Err (fault.Line n (long_cause t.headed))
+long_parts : (n : ℕ) (t : TextLoading) (line : List ℕ) (parts : List (List ℕ)) → longest_dump_line < length line → parts_read n t (line ∷ parts) ≡ Err (fault.Line n (long_cause t.headed))
 long_parts n t line [] long = long_end n t line long
 long_parts n t line (next ∷ parts) long = ap (λ (r : Result TextLoading Cause). then_line n r (λ u. parts_read (n + 1) u (next ∷ parts))) (long_refused t line long)
 
@@ -64,7 +78,7 @@ split_onto (c ∷ line) left x more none e =
     slice_split-cons_no is_feed c (line ++ left) (All-head (λ b. (b == 10) ≡ false) c line none)
     ∙ ap (onto_first c) (split_onto line left x more (All-tail (λ b. (b == 10) ≡ false) c line none) e)
 
-pub long_line : (n : ℕ) (t : TextLoading) (line part whole left : List ℕ) → IsKept line → HasNoFeed part → whole ≡ line ++ part → longest_line < length whole
+pub long_line : (n : ℕ) (t : TextLoading) (line part whole left : List ℕ) → IsLineSoFar line → HasNoFeed part → whole ≡ line ++ part → longest_dump_line < length whole
     → text_from n t (line ++ (part ++ left)) ≡ Err (fault.Line n (long_cause t.headed))
 unfolding text_from
 long_line n t line part whole left kept plain is long =
@@ -80,20 +94,20 @@ long_line n t line part whole left kept plain is long =
 pub kept_more : (n : ℕ) (t : TextLoading) (line part whole left : List ℕ) → whole ≡ line ++ part → text_from n t (line ++ (part ++ left)) ≡ text_from n t (whole ++ left)
 kept_more n t line part whole left is = ap (text_from n t) (sym (append_assoc line part left) ∙ ap (λ (w : List ℕ). w ++ left) (sym is))
 
-pub is_kept : (line part whole : List ℕ) → IsKept line → HasNoFeed part → whole ≡ line ++ part → length whole ≤ longest_line → IsKept whole
+pub is_kept : (line part whole : List ℕ) → IsLineSoFar line → HasNoFeed part → whole ≡ line ++ part → length whole ≤ longest_dump_line → IsLineSoFar whole
 is_kept line part whole kept plain is short = (subst HasNoFeed (sym is) (All-append (λ b. (b == 10) ≡ false) line part kept.0 plain), short)
 
-pub none_kept : (line : List ℕ) → line ≡ [] → IsKept line
-none_kept line is = subst IsKept (sym is) (All-nil (λ b. (b == 10) ≡ false), omega arith)
+pub none_kept : (line : List ℕ) → line ≡ [] → IsLineSoFar line
+none_kept line is = subst IsLineSoFar (sym is) (All-nil (λ b. (b == 10) ≡ false), omega arith)
 
 -- ---- the end
 
-pub at_end : (n : ℕ) (t : TextLoading) (line : List ℕ) → IsKept line → text_from n t (line ++ []) ≡ end_read n t line
+pub at_end : (n : ℕ) (t : TextLoading) (line : List ℕ) → IsLineSoFar line → text_from n t (line ++ []) ≡ end_read n t line
 unfolding text_from
 at_end n t line kept = ap (text_from n t) (append-nil line) ∙ ap (parts_read n t) (slice_split_none is_feed line kept.0)
 
-pub cut_end : (n : ℕ) (t : TextLoading) (line : List ℕ) → 0 < length line → length line ≤ longest_line → end_read n t line ≡ Err (fault.Cut n)
+pub cut_end : (n : ℕ) (t : TextLoading) (line : List ℕ) → 0 < length line → length line ≤ longest_dump_line → end_read n t line ≡ Err (fault.Cut n)
 cut_end n t [] some short = absurd (omega (arith, some))
 cut_end n t (b ∷ part) some short =
-    let yes : nat_le (length (b ∷ part)) longest_line ≡ true = grind (arith, short) in
+    let yes : nat_le (length (b ∷ part)) longest_dump_line ≡ true = grind (arith, short) in
     ap (cut_or_long n t) yes

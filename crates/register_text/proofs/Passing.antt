@@ -1,5 +1,5 @@
 -- What passed between a text and its reader or writer.
-use Rattle.std.proofs.Common.{◌≡◌, ℕ, zero, suc, ◌+◌, ◌≤◌, List, [], ◌∷◌, ◌++◌, length, Option, None, Some, Result, Ok, Err, IfErr, OnOk, refl, sym, ap, subst, ◌∙◌, append_assoc, arith, true}
+use Rattle.std.proofs.Common.{◌≡◌, ℕ, zero, suc, ◌+◌, ◌≤◌, List, [], ◌∷◌, ◌++◌, length, Option, None, Some, Result, Ok, Err, IfErr, OnOk, refl, sym, ap, inl, inr, subst, ◌∙◌, append_assoc, arith, true}
 use Rattle.std.proofs.lemmas.List.{append-nil}
 use Rattle.std.specs.Prelude.{nat_le}
 use Rattle.centre_core.specs.State.{State}
@@ -7,10 +7,10 @@ use Rattle.register_text.specs.declared.dumping.DumpFault.{DumpFault}
 use Rattle.register_text.specs.declared.dumping.DumpFault.TheVariants as dump
 use Rattle.register_text.specs.declared.load_fault.LoadFault.{LoadFault}
 use Rattle.register_text.specs.declared.load_fault.LoadFault.TheVariants as load
-use Rattle.register_text.specs.Dump.{IsLoadFault, cut_or_long, end_read, longest_line, or_cut, text_from}
+use Rattle.register_text.specs.Dump.{IsLoadFault, cut_or_long, end_read, longest_dump_line, or_cut, text_from}
 use Rattle.register_text.specs.Text.{TextLoading, text_finished}
-use Rattle.register_text.specs.Inside.Going.{IsHeld, IsKept, IsOfLine, IsRefused}
-use Rattle.register_text.specs.Passing.{HasFailed, HasNoBadLine, HavePassed, IsUnread, IsUnwritten, IsWhole, IsWritten, most_given}
+use Rattle.register_text.specs.Inside.Going.{IsHeld, IsLineSoFar, IsOfLine, IsRefused}
+use Rattle.register_text.specs.Passing.{HasNoBadLine, HavePassed, IsUnread, IsUnwritten, IsWhole, IsWritten, ReaderHasFailed, most_given}
 use Rattle.register_text.proofs.Parts.{at_end}
 
 module _ {S : Type 0} (Passed : S → List ℕ → S → Type 0) where
@@ -92,14 +92,14 @@ module _ {S : Type 0} (Passed : S → List ℕ → S → Type 0) where
 -- ---- reading
 
 -- no line is at fault where the last of them is kept
-end_good : (n : ℕ) (t : TextLoading) (line : List ℕ) → length line ≤ longest_line → HasNoBadLine (end_read n t line)
+end_good : (n : ℕ) (t : TextLoading) (line : List ℕ) → length line ≤ longest_dump_line → HasNoBadLine (end_read n t line)
 end_good n t [] short = of_end (text_finished t)
   where
     of_end : (o : Option State) → HasNoBadLine (or_cut n o)
     of_end None = tt
     of_end (Some s) = tt
 end_good n t (b ∷ part) short =
-    let yes : nat_le (length (b ∷ part)) longest_line ≡ true = grind (arith, short) in
+    let yes : nat_le (length (b ∷ part)) longest_dump_line ≡ true = grind (arith, short) in
     subst HasNoBadLine (sym (ap (cut_or_long n t) yes)) tt
 
 one_fault : (a b : LoadFault) → ◌≡◌ {A = Result State LoadFault} (Err a) (Err b) → b ≡ a
@@ -109,38 +109,38 @@ none_made : (s : State) (fault : LoadFault) → ◌≡◌ {A = Result State Load
 none_made s fault same = cc
 
 -- the only fault at the end is that the text is cut
-end_kind : (n : ℕ) (t : TextLoading) (line : List ℕ) (fault : LoadFault) → length line ≤ longest_line → end_read n t line ≡ Err fault → fault ≡ load.Cut n
+end_kind : (n : ℕ) (t : TextLoading) (line : List ℕ) (fault : LoadFault) → length line ≤ longest_dump_line → end_read n t line ≡ Err fault → fault ≡ load.Cut n
 end_kind n t [] fault short e = of_end (text_finished t) e
   where
     of_end : (o : Option State) → or_cut n o ≡ Err fault → fault ≡ load.Cut n
     of_end None e = one_fault (load.Cut n) fault e
     of_end (Some s) e = absurd (none_made s fault e)
 end_kind n t (b ∷ part) fault short e =
-    let yes : nat_le (length (b ∷ part)) longest_line ≡ true = grind (arith, short) in
+    let yes : nat_le (length (b ∷ part)) longest_dump_line ≡ true = grind (arith, short) in
     one_fault (load.Cut n) fault (sym (ap (cut_or_long n t) yes) ∙ e)
 
-pub kept_good : (n : ℕ) (t : TextLoading) (line : List ℕ) → IsKept line → HasNoBadLine (text_from n t (line ++ []))
+pub kept_good : (n : ℕ) (t : TextLoading) (line : List ℕ) → IsLineSoFar line → HasNoBadLine (text_from n t (line ++ []))
 kept_good n t line kept = subst HasNoBadLine (sym (at_end n t line kept)) (end_good n t line kept.1)
 
 module _ {S : Type 0} (Gave : S → List ℕ → S → Type 0) (Ended Failed : S → S → Type 0) where
   -- what two texts make alike
   pub unread_alike : (made same : List ℕ → Result State LoadFault) → ((text : List ℕ) → made text ≡ same text) → (a b : S) (fault : LoadFault)
       → IsUnread Gave Ended Failed made a b fault → IsUnread Gave Ended Failed same a b fault
-  unread_alike made same alike a b load.Memory (k, text, piece, had, short, good) = (k, text, piece, had, short, subst HasNoBadLine (alike text) good)
+  unread_alike made same alike a b load.Memory (k, last, text, had, once, good) = (k, last, text, had, once, subst HasNoBadLine (alike text) good)
   unread_alike made same alike a b load.Read (text, had, good) = (text, had, subst HasNoBadLine (alike text) good)
   unread_alike made same alike a b (load.Line n cause) (k, text, had, is) = (k, text, had, λ left. sym (alike (text ++ left)) ∙ is left)
   unread_alike made same alike a b (load.Cut n) (text, whole, is) = (text, whole, sym (alike text) ∙ is)
 
   -- nothing was read
   pub never_read : (made : List ℕ → Result State LoadFault) (a : S) → HasNoBadLine (made []) → IsUnread Gave Ended Failed made a a load.Memory
-  never_read made a good = (0, [], [], none_passed Gave a, omega arith, good)
+  never_read made a good = (0, a, [], none_passed Gave a, inl refl, good)
 
   -- a fault of the piece that came last
   pub piece_unread : (made then_ : List ℕ → Result State LoadFault) (k : ℕ) (a b c : S) (text piece : List ℕ) (fault : LoadFault)
       → HavePassed Gave k a text b → Gave b piece c → length piece ≤ most_given → HasNoBadLine (then_ []) → ((left : List ℕ) → made (text ++ left) ≡ then_ left)
       → IsOfLine fault → ((left : List ℕ) → IsLoadFault (then_ (piece ++ left)) fault) → IsUnread Gave Ended Failed made a c fault
   piece_unread made then_ k a b c text piece load.Memory had gave short good goes kind said =
-      (k + 1, text, piece, one_more Gave k a b c text piece had gave, short, subst HasNoBadLine (sym (goes []) ∙ ap made (append-nil text)) good)
+      (k, b, text, had, inr (piece, gave, short), subst HasNoBadLine (sym (goes []) ∙ ap made (append-nil text)) good)
   piece_unread made then_ k a b c text piece load.Read had gave short good goes kind said = absurd kind
   piece_unread made then_ k a b c text piece (load.Line n cause) had gave short good goes kind said =
       (k + 1, text ++ piece, one_more Gave k a b c text piece had gave, λ left. ap made (append_assoc text piece left) ∙ goes (piece ++ left) ∙ said left)
@@ -148,18 +148,18 @@ module _ {S : Type 0} (Gave : S → List ℕ → S → Type 0) (Ended Failed : S
 
   -- the reader failed, or gave no end
   pub reader_failed : (made then_ : List ℕ → Result State LoadFault) (a c : S) (text : List ℕ)
-      → HasFailed Gave Failed a c text → HasNoBadLine (then_ []) → ((left : List ℕ) → made (text ++ left) ≡ then_ left) → IsUnread Gave Ended Failed made a c load.Read
+      → ReaderHasFailed Gave Failed a c text → HasNoBadLine (then_ []) → ((left : List ℕ) → made (text ++ left) ≡ then_ left) → IsUnread Gave Ended Failed made a c load.Read
   reader_failed made then_ a c text had good goes = (text, had, subst HasNoBadLine (sym (goes []) ∙ ap made (append-nil text)) good)
 
   -- a fault at the end of the text
   pub end_unread : (made : List ℕ → Result State LoadFault) (a c : S) (n : ℕ) (t : TextLoading) (line text : List ℕ) (fault : LoadFault)
-      → IsWhole Gave Ended a c text → made text ≡ text_from n t (line ++ []) → IsKept line → text_from n t (line ++ []) ≡ Err fault → IsUnread Gave Ended Failed made a c fault
+      → IsWhole Gave Ended a c text → made text ≡ text_from n t (line ++ []) → IsLineSoFar line → text_from n t (line ++ []) ≡ Err fault → IsUnread Gave Ended Failed made a c fault
   end_unread made a c n t line text fault whole same kept is =
       let cut = end_kind n t line fault kept.1 (sym (at_end n t line kept) ∙ is) in
       subst (λ (f : LoadFault). IsUnread Gave Ended Failed made a c f) (sym cut) (text, whole, same ∙ is ∙ ap (λ (f : LoadFault). Err f) cut)
 
   -- what comes at the end of the text
   pub ended_unread : (r : Result State LoadFault) (made : List ℕ → Result State LoadFault) (a c : S) (n : ℕ) (t : TextLoading) (line text : List ℕ)
-      → IsWhole Gave Ended a c text → made text ≡ text_from n t (line ++ []) → IsKept line → r ≡ text_from n t (line ++ []) → IfErr r (IsUnread Gave Ended Failed made a c)
+      → IsWhole Gave Ended a c text → made text ≡ text_from n t (line ++ []) → IsLineSoFar line → r ≡ text_from n t (line ++ []) → IfErr r (IsUnread Gave Ended Failed made a c)
   ended_unread (Ok s) made a c n t line text whole same kept is = tt
   ended_unread (Err fault) made a c n t line text whole same kept is = end_unread made a c n t line text fault whole same kept (sym is)

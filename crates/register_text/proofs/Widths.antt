@@ -24,7 +24,7 @@ use Rattle.image_rows.specs.Loading.{Loading}
 use Rattle.register_text.specs.Lines.{fields, presence_word, group_words, copied_words, spaced, row_line, IsLineRow}
 use Rattle.register_text.specs.Reading.{line_row, number_in, most_4, most_8}
 use Rattle.register_text.specs.Text.{TextLoading, count_after, count_taken, head_text, head_of, head_in, is_head, is_same, limits_in, head_taken, line_taken, line_taken_by, or_spelling}
-use Rattle.register_text.specs.Dump.{longest_line, long_cause}
+use Rattle.register_text.specs.Dump.{longest_dump_line, long_cause}
 use Rattle.register_text.specs.declared.cause.Cause.TheVariants as cause
 use Rattle.register_text.proofs.Short.{number_most}
 use Rattle.register_text.proofs.Spaces.{lifetime_small}
@@ -86,7 +86,7 @@ groups_short (g ∷ groups) fit =
 
 -- ---- the line of a row
 
-pub row_short : (row : Row) → IsLineRow row → length (row_line row) ≤ longest_line
+pub row_short : (row : Row) → IsLineRow row → length (row_line row) ≤ longest_dump_line
 unfolding wide
 row_short (HeaderRow h) is =
     let r = is.is_row.range in
@@ -163,7 +163,7 @@ row_short (ServedRow station last) is =
 no_text : {P : Type 0} (text : List ℕ) (e : (let o : Option (List ℕ) = None in o) ≡ Some text) → P
 no_text text e = absurd cc
 
-head_short : (r p m s : ℕ) → r ≤ most_4 → p ≤ most_4 → m ≤ most_4 → s ≤ most_4 → length (head_text r p m s) ≤ longest_line
+head_short : (r p m s : ℕ) → r ≤ most_4 → p ≤ most_4 → m ≤ most_4 → s ≤ most_4 → length (head_text r p m s) ≤ longest_dump_line
 unfolding wide
 head_short r p m s lr lp lm ls =
     let a = decimal_fits r (omega (arith, lr)) in
@@ -185,16 +185,16 @@ word_small : (word : List ℕ) → Small (number_in most_4 word)
 unfolding Small
 word_small word n e = number_most most_4 n word (ok_of_some _ n e)
 
-of_short : (r p m s : Option ℕ) (text : List ℕ) → Small r → Small p → Small m → Small s → head_of r p m s ≡ Some text → length text ≤ longest_line
+of_short : (r p m s : Option ℕ) (text : List ℕ) → Small r → Small p → Small m → Small s → head_of r p m s ≡ Some text → length text ≤ longest_dump_line
 unfolding Small
 of_short None p m s text fr fp fm fs e = no_text text e
 of_short (Some r) None m s text fr fp fm fs e = no_text text e
 of_short (Some r) (Some p) None s text fr fp fm fs e = no_text text e
 of_short (Some r) (Some p) (Some m) None text fr fp fm fs e = no_text text e
 of_short (Some r) (Some p) (Some m) (Some s) text fr fp fm fs e =
-    subst (λ (t : List ℕ). length t ≤ longest_line) (some_is (head_text r p m s) text e) (head_short r p m s (fr r refl) (fp p refl) (fm m refl) (fs s refl))
+    subst (λ (t : List ℕ). length t ≤ longest_dump_line) (some_is (head_text r p m s) text e) (head_short r p m s (fr r refl) (fp p refl) (fm m refl) (fs s refl))
 
-limits_short : (ws : List (List ℕ)) (text : List ℕ) → limits_in ws ≡ Some text → length text ≤ longest_line
+limits_short : (ws : List (List ℕ)) (text : List ℕ) → limits_in ws ≡ Some text → length text ≤ longest_dump_line
 limits_short [] text e = no_text text e
 limits_short (a ∷ []) text e = no_text text e
 limits_short (a ∷ r ∷ []) text e = no_text text e
@@ -207,27 +207,27 @@ limits_short (a ∷ r ∷ b ∷ p ∷ c ∷ m ∷ d ∷ s ∷ []) text e =
     of_short (number_in most_4 r) (number_in most_4 p) (number_in most_4 m) (number_in most_4 s) text (word_small r) (word_small p) (word_small m) (word_small s) e
 limits_short (a ∷ r ∷ b ∷ p ∷ c ∷ m ∷ d ∷ s ∷ x ∷ more) text e = no_text text e
 
-numbers_short : (ws : List (List ℕ)) (text : List ℕ) → head_in ws ≡ Some text → length text ≤ longest_line
+numbers_short : (ws : List (List ℕ)) (text : List ℕ) → head_in ws ≡ Some text → length text ≤ longest_dump_line
 numbers_short [] text e = no_text text e
 numbers_short (a ∷ []) text e = no_text text e
 numbers_short (a ∷ b ∷ []) text e = no_text text e
 numbers_short (a ∷ b ∷ c ∷ ws) text e = limits_short ws text e
 
-same_short : (line : List ℕ) (o : Option (List ℕ)) → ((text : List ℕ) → o ≡ Some text → length text ≤ longest_line) → is_same line o ≡ true → length line ≤ longest_line
+same_short : (line : List ℕ) (o : Option (List ℕ)) → ((text : List ℕ) → o ≡ Some text → length text ≤ longest_dump_line) → is_same line o ≡ true → length line ≤ longest_dump_line
 same_short line None short e = absurd cc
-same_short line (Some text) short e = subst (λ (t : List ℕ). length t ≤ longest_line) ((bytes_eq-Decides text line).0 e) (short text refl)
+same_short line (Some text) short e = subst (λ (t : List ℕ). length t ≤ longest_dump_line) ((bytes_eq-Decides text line).0 e) (short text refl)
 
-first_short : (line : List ℕ) → is_head line ≡ true → length line ≤ longest_line
+first_short : (line : List ℕ) → is_head line ≡ true → length line ≤ longest_dump_line
 unfolding is_head
 first_short line e = same_short line (head_in (words line)) (numbers_short (words line)) e
 
 -- ---- a line that is longer
 
-no_head : (stated : Option ℕ) (l : Loading) (line : List ℕ) (b : Bool) → longest_line < length line → (b ≡ true → length line ≤ longest_line) → head_taken stated l b ≡ Err cause.Head
+no_head : (stated : Option ℕ) (l : Loading) (line : List ℕ) (b : Bool) → longest_dump_line < length line → (b ≡ true → length line ≤ longest_dump_line) → head_taken stated l b ≡ Err cause.Head
 no_head stated l line true long short = let n = short refl in absurd (omega (arith, long, n))
 no_head stated l line false long short = refl
 
-no_row : (stated : Option ℕ) (l : Loading) (line : List ℕ) (o : Option Row) → longest_line < length line → line_row line ≡ o → or_spelling stated l o ≡ Err cause.Spelling
+no_row : (stated : Option ℕ) (l : Loading) (line : List ℕ) (o : Option Row) → longest_dump_line < length line → line_row line ≡ o → or_spelling stated l o ≡ Err cause.Spelling
 no_row stated l line None long e = refl
 no_row stated l line (Some row) long e =
     let spelt = line_only line row e in
@@ -236,7 +236,7 @@ no_row stated l line (Some row) long e =
     absurd (omega (arith, long, n, m))
 
 -- it has no number of 64 bits after its first 5 bytes
-no_number : (line : List ℕ) (o : Option ℕ) → longest_line < length line → number_in most_8 (drop 5 line) ≡ o → o ≡ None
+no_number : (line : List ℕ) (o : Option ℕ) → longest_dump_line < length line → number_in most_8 (drop 5 line) ≡ o → o ≡ None
 no_number line None long e = refl
 no_number line (Some n) long e =
     let only = reading_number_only most_8 n (drop 5 line) (omega arith) (ok_of_some _ n e) in
@@ -245,23 +245,23 @@ no_number line (Some n) long e =
     let all = length-drop 5 line in
     absurd (omega (arith, long, fits, short, all))
 
-none_stated : (line : List ℕ) (b : Bool) → longest_line < length line → cond b (number_in most_8 (drop 5 line)) None ≡ None
+none_stated : (line : List ℕ) (b : Bool) → longest_dump_line < length line → cond b (number_in most_8 (drop 5 line)) None ≡ None
 none_stated line true long = no_number line (number_in most_8 (drop 5 line)) long refl
 none_stated line false long = refl
 
-none_after : (stated : Option ℕ) (line : List ℕ) → longest_line < length line → count_after stated line ≡ None
+none_after : (stated : Option ℕ) (line : List ℕ) → longest_dump_line < length line → count_after stated line ≡ None
 none_after None line long = none_stated line (bytes_eq (take 5 line) (codes "dump ")) long
 none_after (Some n) line long = refl
 
-no_head_by : (stated : Option ℕ) (l : Loading) (line : List ℕ) (o : Option ℕ) → longest_line < length line → o ≡ None → count_taken stated l line o ≡ Err cause.Head
+no_head_by : (stated : Option ℕ) (l : Loading) (line : List ℕ) (o : Option ℕ) → longest_dump_line < length line → o ≡ None → count_taken stated l line o ≡ Err cause.Head
 no_head_by stated l line None long e = no_head stated l line (is_head line) long (first_short line)
 no_head_by stated l line (Some n) long e = absurd cc
 
-refused_by : (headed : Bool) (stated : Option ℕ) (l : Loading) (line : List ℕ) → longest_line < length line → line_taken_by headed stated l line ≡ Err (long_cause headed)
+refused_by : (headed : Bool) (stated : Option ℕ) (l : Loading) (line : List ℕ) → longest_dump_line < length line → line_taken_by headed stated l line ≡ Err (long_cause headed)
 refused_by false stated l line long = no_head_by stated l line (count_after stated line) long (none_after stated line long)
 refused_by true stated l line long = no_row stated l line (line_row line) long refl
 
 -- no line that is longer can be taken
-pub long_refused : (t : TextLoading) (line : List ℕ) → longest_line < length line → line_taken t line ≡ Err (long_cause t.headed)
+pub long_refused : (t : TextLoading) (line : List ℕ) → longest_dump_line < length line → line_taken t line ≡ Err (long_cause t.headed)
 unfolding line_taken
 long_refused t line long = refused_by t.headed t.stated t.rows line long

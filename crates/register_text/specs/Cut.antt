@@ -5,13 +5,13 @@ use Rattle.identity.specs.Numbers.{Byte}
 use Rattle.image_rows.specs.Rows.{Row, HeaderRow, row_count}
 use Rattle.register_text.specs.Reading.{line_row}
 
--- how many lines have yet to come after one with this row; unknown until the count line
+-- how many lines must follow one with this row; unknown before the count line
 abbrev pub due_after : Option ℕ → Option Row → Option ℕ
 due_after (Some due) row = Some (due - 1)
 due_after None (Some (HeaderRow h)) = Some (row_count h - 1)
 due_after None row = None
 
--- whether a line is missing
+-- whether a line is missing: the count line, or one that it states
 abbrev pub is_due : Option ℕ → Bool
 is_due None = true
 is_due (Some due) = nat_lt 0 due

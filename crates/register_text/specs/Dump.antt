@@ -27,9 +27,9 @@ register_bytes s = ended (register_lines s)
 abbrev pub HasNoFeed : List Byte → Type 0
 HasNoFeed line = Lacks 10 line
 
--- no line that can be taken has more bytes
-abbrev pub longest_line : ℕ
-longest_line = 4096
+-- the most bytes of a line that can be taken, without its line feed
+abbrev pub longest_dump_line : ℕ
+longest_dump_line = 4096
 
 -- why a line longer than that can't be taken, by whether the first line was taken
 abbrev pub long_cause : Bool → Cause
@@ -41,28 +41,28 @@ abbrev pub then_line : ℕ → Result TextLoading Cause → (TextLoading → Res
 then_line n (Err cause) more = Err (fault.Line n cause)
 then_line n (Ok t) more = more t
 
--- the register, or the text is cut before line n
+-- the register, if there is one; else the text is cut before line n
 abbrev pub or_cut : ℕ → Option State → Result State LoadFault
 or_cut n None = Err (fault.Cut n)
 or_cut n (Some s) = Ok s
 
--- the text ends within line n: it is cut there if the bytes of that line are not too long (`true`)
+-- The text ends within line n. It is cut there (`true`), or line n is already too long.
 abbrev pub cut_or_long : ℕ → TextLoading → Bool → Result State LoadFault
 cut_or_long n t true = Err (fault.Cut n)
 cut_or_long n t false = Err (fault.Line n (long_cause t.headed))
 
--- what follows the last line feed: nothing, or the first bytes of line n
+-- What the end of a text makes. Nothing follows the last line feed, or the first bytes of line n do.
 abbrev pub end_read : ℕ → TextLoading → List Byte → Result State LoadFault
 end_read n t [] = or_cut n (text_finished t)
-end_read n t (b ∷ part) = cut_or_long n t (nat_le (length (b ∷ part)) longest_line)
+end_read n t (b ∷ part) = cut_or_long n t (nat_le (length (b ∷ part)) longest_dump_line)
 
--- the lines from line n on, and what follows the last line feed
+-- what the parts of a text between its line feeds make, from line n on
 abbrev pub parts_read : ℕ → TextLoading → List (List Byte) → Result State LoadFault
 parts_read n t [] = end_read n t []
 parts_read n t (end ∷ []) = end_read n t end
 parts_read n t (line ∷ next ∷ parts) = then_line n (line_taken t line) (λ u. parts_read (n + 1) u (next ∷ parts))
 
--- what a text makes from line n on
+-- what a text makes whose first line is line n
 unfoldable pub text_from : ℕ → TextLoading → List Byte → Result State LoadFault
 text_from n t text = parts_read n t (slice_split (λ b. b == 10) text)
 

@@ -54,17 +54,24 @@ module _ {S : Type 0} (Gave : S → List Byte → S → Type 0) where
   IsWhole Ended old new text = (calls : ℕ) × (last : S) × HavePassed Gave calls old text last × Ended last new
 
   -- the reader gave this text, and then it failed, or had been called as often as it may be
-  abbrev pub HasFailed : (S → S → Type 0) → S → S → List Byte → Type 0
-  HasFailed Failed old new text =
+  abbrev pub ReaderHasFailed : (S → S → Type 0) → S → S → List Byte → Type 0
+  ReaderHasFailed Failed old new text =
       ((calls : ℕ) × (last : S) × HavePassed Gave calls old text last × Failed last new) ⊎ ((calls : ℕ) × HavePassed Gave calls old text new × (most_calls ≤ calls))
 
-  -- Why a text is not read. `made` is what a text makes. `Read` comes only if the reader failed or gave no end, and if no line of what
-  -- the reader gave is at fault. At `Memory` no line is at fault in what it gave before its last piece. A fault of a line is a fault of
-  -- what the reader gave, whatever bytes come next. At `Cut` the reader gave its end, and all that it gave is cut.
+  -- from `last` on the reader gave nothing more, or one call gave the last piece
+  abbrev pub GaveAtMostOnce : S → S → Type 0
+  GaveAtMostOnce last new = (last ≡ new) ⊎ ((piece : List Byte) × Gave last piece new × (length piece ≤ most_given))
+
+  -- Why a text is not read. `made` is what a text makes.
+  -- `Memory`: no line is at fault in what the reader gave before its last call. Memory may run out at any line of the last piece, before
+  -- that line is judged. So nothing is said of that piece.
+  -- `Read`: the reader failed or gave no end, and no line is at fault in what it gave.
+  -- `Line`: the line is at fault in what the reader gave, whatever bytes come next.
+  -- `Cut`: the reader gave its end, and all that it gave is cut.
   abbrev pub IsUnread : (S → S → Type 0) → (S → S → Type 0) → (List Byte → Result State LoadFault) → S → S → LoadFault → Type 0
   IsUnread Ended Failed made old new load.Memory =
-      (calls : ℕ) × (text : List Byte) × (piece : List Byte) × HavePassed Gave calls old (text ++ piece) new × (length piece ≤ most_given) × HasNoBadLine (made text)
-  IsUnread Ended Failed made old new load.Read = (text : List Byte) × HasFailed Failed old new text × HasNoBadLine (made text)
+      (calls : ℕ) × (last : S) × (text : List Byte) × HavePassed Gave calls old text last × GaveAtMostOnce last new × HasNoBadLine (made text)
+  IsUnread Ended Failed made old new load.Read = (text : List Byte) × ReaderHasFailed Failed old new text × HasNoBadLine (made text)
   IsUnread Ended Failed made old new (load.Line n cause) =
       (calls : ℕ) × (text : List Byte) × HavePassed Gave calls old text new × ((left : List Byte) → made (text ++ left) ≡ Err (load.Line n cause))
   IsUnread Ended Failed made old new (load.Cut n) = (text : List Byte) × IsWhole Ended old new text × (made text ≡ Err (load.Cut n))

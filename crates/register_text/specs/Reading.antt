@@ -1,4 +1,4 @@
--- How a line is read: its words give a row, whose bytes are read as a disk's are. The line must be that row's one spelling.
+-- How a line is read. Its words give a row, and the row's bytes are read as a disk's sectors are. The line must be that row's one spelling.
 use Rattle.std.specs.Prelude.{ℕ, ◌*◌, Bool, true, false, List, [], ◌∷◌, length, Option, Some, None, option_map, nat_le, if◌then◌else◌, codes}
 use Rattle.std.specs.Result.{result_ok}
 use Rattle.std.specs.Str.{bytes_eq}
@@ -74,7 +74,7 @@ abbrev pub one_group_in : List (List Byte) → Option Group
 one_group_in (gtsi ∷ class ∷ lifetime ∷ []) = group_in gtsi class lifetime
 one_group_in words = None
 
--- the groups, each of three words; one or two words at the end are no group, and are ignored here
+-- The groups, each of three words. One or two words at the end are ignored here.
 abbrev pub groups_in : List (List Byte) → Option (List Group)
 groups_in (gtsi ∷ class ∷ lifetime ∷ words) = group_in gtsi class lifetime >>= λ group. groups_in words >>= λ groups. Some (group ∷ groups)
 groups_in words = Some []
@@ -117,7 +117,7 @@ item_in (number ∷ destination ∷ kind ∷ source ∷ reference ∷ deadline �
     item_of (number_in most_8 number) (key_in destination source reference kind) (number_in latest_deadline deadline) (copied_in group) (pdu_in pdu)
 item_in words = None
 
--- the PDU of a reply: none for -
+-- the PDU of a reply; the word `-` stands for none
 abbrev pub reply_in : List Byte → Option (Option (List Bool))
 reply_in word = if bytes_eq word (codes "-") then Some None else option_map Some (pdu_in word)
 
@@ -152,7 +152,7 @@ row_given (name ∷ words) = fields_in name words
 abbrev pub sector_in : List (List Byte) → Option (List Byte)
 sector_in words = option_map sector_of (row_given words)
 
--- the row that these bytes are read as
+-- the row that a sector is read as, if there is one
 abbrev pub found_row : Option (List Byte) → Option Row
 found_row None = None
 found_row (Some sector) = row_in sector

@@ -48,7 +48,7 @@ abbrev pub is_same : List Byte → Option (List Byte) → Bool
 is_same line None = false
 is_same line (Some text) = bytes_eq text line
 
--- whether a line may come first: it is the first line with its own numbers
+-- whether a line may come first: it is the first line that is written for its own numbers
 unfoldable pub is_head : List Byte → Bool
 is_head line = is_same line (head_in (words line))
 
@@ -174,14 +174,14 @@ state_in limits lines = whole (lines_taken (text_begun limits) lines)
 
 -- ---- what a text makes
 
--- these rows are those of a register with these limits
+-- t is a register with these rows under these limits
 pub record IsUnder (limits : Limits) (rows : List Row) (t : State) : Type 0 where
   pub are : rows ≡ rows_of 1 t
   pub state : IsState t
   pub ranges : StateInRange t
   pub under : t.registered.limits ≡ limits
 
--- no line, or the line `dump N` for so many
+-- no line, or the line `dump n`
 abbrev pub MayState : ℕ → List (List Byte) → Type 0
 MayState n lines = (lines ≡ []) ⊎ (lines ≡ (codes "dump " ++ decimal n) ∷ [])
 

@@ -7,7 +7,7 @@ pub enum Cause {
     Head,
     /// It is not the line of a row. Each row has one spelling.
     Spelling,
-    /// Its row can't come there: it is out of order, comes twice, is above a limit, or comes after the last row; or it is a line `count` for
-    /// another number of lines than the line `dump N` before the first states.
+    /// Its row can't come there: it is out of order, comes twice, is above a limit, or comes after the last row. Or it is the line `count`,
+    /// and the line `dump N` before the first line states another number of lines.
     Place,
 }

@@ -1,8 +1,8 @@
 //! A register's text, read from any reader.
 ghost use Rattle.std.specs.Prelude.{◌≡◌, ◌≤◌, ◌<◌, ◌+◌, ◌-◌, ◌^◌, ◌++◌, ◌∷◌, [], List, ℕ, length, take, drop};
 ghost use Rattle.std.specs.Prelude.{slice_get, MatchOption, IfErr, IfOk, OnOk, IfSome, Ok, Some};
-ghost use Rattle.register_text.specs.Dump.{HasNoFeed, IsAll, IsLoadFault, long_cause, longest_line, text_read};
-ghost use Rattle.register_text.specs.Inside.Going.{IsKept, IsOfLine, outcome};
+ghost use Rattle.register_text.specs.Dump.{HasNoFeed, IsAll, IsLoadFault, long_cause, longest_dump_line, text_read};
+ghost use Rattle.register_text.specs.Inside.Going.{IsLineSoFar, IsOfLine, fault_of_line, outcome};
 ghost use Rattle.register_text.specs.Passing.{IsUnread, IsWhole};
 
 use crate::TextSource;
@@ -49,11 +49,21 @@ fn long_cause(is_headed: bool) -> Cause
     }
 }
 
+// Why the text is not read, if the line of this number is not taken.
+fn fault_of_line(number: u64, fault: TakeFault) -> LoadFault
+    ensures { result ≡ fault_of_line number fault }
+{
+    match fault {
+        TakeFault::Memory => LoadFault::Memory,
+        TakeFault::Line(cause) => LoadFault::Line(number, cause),
+    }
+}
+
 impl<A: Allocator + Clone> Reading<A> {
     #[tactic(auto, using(crate::proofs::Parts::none_kept))]
     fn new(alloc: A, limits: Limits) -> Result<Self, AllocError>
         ensures read { IfOk result (λ reading. (left : List ℕ) → outcome reading left ≡ text_read limits left) }
-        ensures kept { IfOk result (λ reading. IsKept reading.line.items) }
+        ensures kept { IfOk result (λ reading. IsLineSoFar reading.line.items) }
         ensures first { IfOk result (λ reading. reading.number ≡ 1) }
     {
         Ok(Reading {
@@ -64,39 +74,37 @@ impl<A: Allocator + Clone> Reading<A> {
     }
 
     // Takes the line that ends with these bytes.
-    #[tactic(auto, using(crate::proofs::Parts::line_made, crate::proofs::Parts::line_refused, crate::proofs::Parts::none_kept))]
+    #[tactic(auto, using(crate::proofs::Parts::line_made, crate::proofs::Parts::line_refused, crate::proofs::Parts::of_line, crate::proofs::Parts::none_kept))]
     fn take_line(&mut self, end: &[u8]) -> Result<(), LoadFault>
         requires room { self.old.number + 1 < 2 ^ 64 }
-        requires kept { IsKept self.old.line.items }
+        requires kept { IsLineSoFar self.old.line.items }
         requires plain { HasNoFeed end.now }
         ensures ok { OnOk result ((left : List ℕ) → outcome self.old (end.now ++ 10 ∷ left) ≡ outcome self.new left) }
         ensures fault { IfErr result (λ fault. (left : List ℕ) → IsLoadFault (outcome self.old (end.now ++ 10 ∷ left)) fault) }
         ensures kinds { IfErr result IsOfLine }
-        ensures kept { OnOk result (IsKept self.new.line.items) }
+        ensures kept { OnOk result (IsLineSoFar self.new.line.items) }
         ensures number { OnOk result (self.new.number ≡ self.old.number + 1) }
     {
         let Ok(()) = self.line.extend_from_slice(end) else {
             return Err(LoadFault::Memory);
         };
-        match self.loader.take(&self.line) {
-            Ok(()) => {}
-            Err(TakeFault::Memory) => return Err(LoadFault::Memory),
-            Err(TakeFault::Line(cause)) => return Err(LoadFault::Line(self.number, cause)),
+        if let Err(fault) = self.loader.take(&self.line) {
+            return Err(fault_of_line(self.number, fault));
         }
         self.line.clear();
         self.number += 1;
         Ok(())
     }
 
-    // Keeps bytes of a line that goes on after them.
+    // Adds bytes to the line so far, which goes on after them.
     #[tactic(auto, using(crate::proofs::Parts::long_line, crate::proofs::Parts::kept_more, crate::proofs::Parts::is_kept))]
-    fn keep(&mut self, part: &[u8]) -> Result<(), LoadFault>
-        requires kept { IsKept self.old.line.items }
+    fn add_to_line(&mut self, part: &[u8]) -> Result<(), LoadFault>
+        requires kept { IsLineSoFar self.old.line.items }
         requires plain { HasNoFeed part.now }
         ensures ok { OnOk result ((left : List ℕ) → outcome self.old (part.now ++ left) ≡ outcome self.new left) }
         ensures fault { IfErr result (λ fault. (left : List ℕ) → IsLoadFault (outcome self.old (part.now ++ left)) fault) }
         ensures kinds { IfErr result IsOfLine }
-        ensures kept { OnOk result (IsKept self.new.line.items) }
+        ensures kept { OnOk result (IsLineSoFar self.new.line.items) }
         ensures number { self.new.number ≡ self.old.number }
     {
         let Ok(()) = self.line.extend_from_slice(part) else {
@@ -112,11 +120,11 @@ impl<A: Allocator + Clone> Reading<A> {
     // Takes all lines that end in a piece of the text, and keeps what follows the last of them.
     fn take_piece(&mut self, piece: &[u8]) -> Result<(), LoadFault>
         requires room { self.old.number + length piece.now < 2 ^ 64 }
-        requires kept { IsKept self.old.line.items }
+        requires kept { IsLineSoFar self.old.line.items }
         ensures ok { OnOk result ((left : List ℕ) → outcome self.old (piece.now ++ left) ≡ outcome self.new left) }
         ensures fault { IfErr result (λ fault. (left : List ℕ) → IsLoadFault (outcome self.old (piece.now ++ left)) fault) }
         ensures kinds { IfErr result IsOfLine }
-        ensures kept { OnOk result (IsKept self.new.line.items) }
+        ensures kept { OnOk result (IsLineSoFar self.new.line.items) }
         ensures number { OnOk result (self.new.number ≤ self.old.number + length piece.now) }
     {
         let mut at = 0;
@@ -124,16 +132,16 @@ impl<A: Allocator + Clone> Reading<A> {
             self.take_line(&piece[at..end])?;
             at = end + 1;
         }
-        self.keep(&piece[at..])
+        self.add_to_line(&piece[at..])
     }
 
     // Takes all that the reader gives.
     fn take_all<R: TextSource>(&mut self, reader: &mut R) -> Result<(), LoadFault>
         requires first { self.old.number ≡ 1 }
-        requires kept { IsKept self.old.line.items }
+        requires kept { IsLineSoFar self.old.line.items }
         ensures ok { OnOk result ((text : List ℕ) × IsAll (R.remaining reader.old) text × (outcome self.old text ≡ outcome self.new [])) }
         ensures fault { IfErr result (λ fault. (text : List ℕ) → R.remaining reader.old ≡ Some text → IsLoadFault (outcome self.old text) fault) }
-        ensures kept { OnOk result (IsKept self.new.line.items) }
+        ensures kept { OnOk result (IsLineSoFar self.new.line.items) }
         ensures whole { OnOk result ((text : List ℕ) × IsWhole R.gave R.ended reader.old reader.new text × (outcome self.old text ≡ outcome self.new [])) }
         ensures unread { IfErr result (IsUnread R.gave R.ended R.failed (outcome self.old) reader.old reader.new) }
     {
@@ -153,7 +161,7 @@ impl<A: Allocator + Clone> Reading<A> {
     // The register, once all of the text was taken.
     #[tactic(auto, using(crate::proofs::Parts::at_end, crate::proofs::Parts::cut_end))]
     fn finish(self) -> Result<Register<A>, LoadFault>
-        requires kept { IsKept self.line.items }
+        requires kept { IsLineSoFar self.line.items }
         ensures { result ≡ outcome self [] }
     {
         let Reading {
@@ -177,7 +185,7 @@ impl<A: Allocator + Clone> Reading<A> {
 /// # Errors
 /// `Line` and `Cut` for the first fault of the text. `Read` only if the reader failed, or gave no end in 4,294,967,295 calls, and no line
 /// of what it gave is at fault. `Memory` only before the reader's end, and only if no line is at fault in what it gave before its last
-/// piece, of at most 65,536 bytes.
+/// call. One call gives at most 65,536 bytes.
 pub fn read_register<A: Allocator + Clone, R: TextSource>(
     alloc: A,
     limits: Limits,

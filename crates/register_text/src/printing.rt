@@ -195,7 +195,7 @@ fn put_mail<A: Allocator, B: Allocator + Clone>(
     put_item(out, &item)
 }
 
-fn copied<B: Allocator + Clone>(
+fn copy_pdu<B: Allocator + Clone>(
     alloc: &B,
     pdu: &Option<PackedBits<'_>>,
 ) -> Result<Option<Bits<B>>, AllocError>
@@ -248,7 +248,7 @@ fn put_served<A: Allocator, B: Allocator + Clone>(
         ++ row_line (ServedRow last.now.station (record { sequence = last.now.sequence; number = last.now.number; pdu = pdu.now }))) }
     ensures err { OnErr result (IsPrefixOf out.old.items out.new.items) }
 {
-    let Ok(pdu) = copied(alloc, pdu) else {
+    let Ok(pdu) = copy_pdu(alloc, pdu) else {
         return Err(AllocError);
     };
     put_last(out, last, &pdu)

@@ -19,7 +19,7 @@ pub trait TextSource: Read {
     // A call failed.
     ghost failed: { Self → Self → Type 0 };
 
-    /// Calls the reader once: so many bytes, none if it was interrupted, and `None` at the end.
+    /// Calls the reader once. Returns how many bytes it gave, 0 if it was interrupted, or `None` at its end.
     fn next_piece(&mut self, buffer: &mut [u8]) -> io::Result<Option<usize>>
         requires room { 0 < length buffer.old }
         ensures bound { IfOk result (λ piece. FitsPiece piece (length buffer.new)) }

@@ -17,7 +17,7 @@ use std::alloc::Global;
 ///
 /// # Errors
 /// `DumpLine` for the first line that can't be taken, and `DumpCut` if the dump is cut. `File` only if the reader failed or gave no end, and
-/// no line is at fault in what the reader gave. `Memory` only if no line is at fault in what it gave before the last 65,536 bytes.
+/// no line is at fault in what the reader gave. `Memory` only if no line is at fault in what it gave before its last call.
 pub fn load_register<'a, R: TextSource>(
     alloc: Global,
     limits: Limits,

@@ -25,10 +25,10 @@ loop-end-preserved g c =
 
 pub returns-clause-ok : goal.returns-clause-ok
 returns-clause-ok g c =
-    on_ok_weaker c.keep.result
+    on_ok_weaker c.add_to_line.result
     (λ kept left. c.loop-end.invariant.3 left ∙
-    ap (λ (l : List ℕ). outcome c.loop-end.self (l ++ left)) (sym (take_rest c.args.piece.now c.loop-end.at)) ∙ kept left) c.keep.ensures.ok
+    ap (λ (l : List ℕ). outcome c.loop-end.self (l ++ left)) (sym (take_rest c.args.piece.now c.loop-end.at)) ∙ kept left) c.add_to_line.ensures.ok
 
 pub returns-clause-fault : goal.returns-clause-fault
-returns-clause-fault g c = IfErr-weaker c.keep.result _ _ (λ fault said left.
-    fault_from _ _ _ (c.loop-end.invariant.3 left ∙ ap (λ (l : List ℕ). outcome c.loop-end.self (l ++ left)) (sym (take_rest c.args.piece.now c.loop-end.at))) (said left)) c.keep.ensures.fault
+returns-clause-fault g c = IfErr-weaker c.add_to_line.result _ _ (λ fault said left.
+    fault_from _ _ _ (c.loop-end.invariant.3 left ∙ ap (λ (l : List ℕ). outcome c.loop-end.self (l ++ left)) (sym (take_rest c.args.piece.now c.loop-end.at))) (said left)) c.add_to_line.ensures.fault
