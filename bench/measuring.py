@@ -6,6 +6,7 @@ import sys
 import time
 
 TOP = pathlib.Path(__file__).resolve().parent.parent
+SESSIONS = TOP / 'crates/bench_sessions/out/bench_sessions'
 
 
 def build(folder, name, *flags, libraries=()):
@@ -21,6 +22,16 @@ def printed(command, statuses=(0,), **how):
     if ended.returncode not in statuses:
         sys.exit(f'{command} ended with status {ended.returncode}')
     return ended.stdout.decode(), time.monotonic() - start
+
+
+def nanoseconds(command):
+    """By what was done: the best nanoseconds a command. Each line that is printed has what was done, how many commands, and their time."""
+    best = {}
+    for line in printed(command)[0].splitlines():
+        what, commands, took = line.split()
+        each = int(took) / int(commands)
+        best[what] = min(best.get(what, each), each)
+    return best
 
 
 def accepted(program, words, count, **how):
@@ -53,11 +64,11 @@ def beside(ours, limit, is_kept):
     return f'{ours:.2f}, ' + (f'limit {limit}' if is_kept else f'PAST THE LIMIT {limit}')
 
 
-def options(description, **numbers):
-    """The words of the command line: the program, a folder, and numbers with their defaults."""
+def options(description, **others):
+    """The words of the command line: the program, a folder, and others, as numbers, with their defaults."""
     words = argparse.ArgumentParser(description=description, formatter_class=argparse.RawDescriptionHelpFormatter)
     words.add_argument('--program', type=pathlib.Path, default=TOP / 'crates/tetra_switch/out/tetra_switch')
     words.add_argument('--folder', type=pathlib.Path)
-    for name, number in numbers.items():
-        words.add_argument(f'--{name}', type=int, default=number)
+    for name, default in others.items():
+        words.add_argument(f'--{name}', type=type(default), default=default)
     return words.parse_args()

@@ -5,7 +5,7 @@ import subprocess
 import reading
 from disk_files import DISK, register_of, settings
 from images import are_same
-from reading_orders import NoOrder, is_troubled, judged
+from reading_orders import NoOrder, is_troubled, judged, parts
 from running import Differs, compare
 from station_lines import data_of, lines
 
@@ -24,12 +24,14 @@ def giving_orders(stations):
 
 
 class Files:
-    """The lines of many stations, and the names of their files and of their disk. Of them all may give orders, or these."""
+    """The lines of many stations, the names of their files and of their disk, and the words for `run` and `serve`. Of the stations all may
+    give orders, or these."""
 
     def __init__(self, lines, names=None, disk=DISK, orders=None):
-        self.lines, self.orders = lines, orders
-        self.names = names or [f's{station}.txt' for station in range(1, len(lines) + 1)]
+        self.lines, self.orders, stations = lines, orders, range(1, len(lines) + 1)
+        self.names, self.outs = names or [f's{station}.txt' for station in stations], [f's{station}.out' for station in stations]
         self.words = ['run', *giving_orders(orders), disk, *self.names]
+        self.served = ['serve', *giving_orders(orders), disk, *(name for pair in zip(self.names, self.outs) for name in pair)]
 
     def write(self, place):
         for name, lines in zip(self.names, self.lines):
@@ -53,10 +55,20 @@ def formats(place, stations, journal, name=DISK):
     place.gives(['format', 's.toml', name], 0, f'formatted {sectors} sectors\n'.encode())
 
 
-def ran(place, files, **how):
-    """What the program does with these files."""
-    program = subprocess.run([*place.command, *files.words], stdin=subprocess.DEVNULL, capture_output=True, cwd=place.folder, timeout=SECONDS, **how)
+def ran(place, files, words=None, **how):
+    """What the program does with these files by `run`, or by these words. `serve` finds none of its OUT."""
+    for name in files.outs:
+        place.path(name).unlink(missing_ok=True)
+    program = subprocess.run([*place.command, *(words or files.words)], stdin=subprocess.DEVNULL, capture_output=True, cwd=place.folder, timeout=SECONDS, **how)
     return Ran(program.returncode, program.stdout, program.stderr)
+
+
+def told_to_each(place, files, words, out):
+    """The lines that each station was answered, as `run` printed them, or as `serve` wrote them. Without an answer a file may be missing."""
+    if words == files.words:
+        return parts(out, files.names) if out else [[] for _ in files.names]
+    outs = [place.path(name) for name in files.outs]
+    return [path.read_text().splitlines() if path.exists() else [] for path in outs]
 
 
 def ordered(base, files, out):

@@ -6,7 +6,8 @@ are cut at random places, and read whole; and so are the files of four stations 
 - 64 commands of one station share two syncs, and their answers one write, without a disk too; also commands that come to the
   flusher slowly share their syncs. A long text is read in large pieces.
 - A text of more reads than 16 bits count is read to its end. A signal interrupts every second read and write.
-- OUT fails at each byte. What was answered stays done, and of the lines after that at most 64 may be done, in order.
+- OUT fails at each byte. What was answered stays done, and of the lines after that at most 64 may be done, in order. Beside a pair that
+  is left out, at most 32 may be. Of commands that come together exactly so many are done if OUT takes nothing.
 The independent reading (tests/reading/) judges all answers and disks. Prints the seed, the first cases that fail, and last
 'N passed, M failed'.
 Usage: tests/run pieces PROGRAM [--streams N] [--lines N] [--seed N] (the program itself, not a script that starts it)"""
@@ -181,11 +182,14 @@ def batch_waits_for_more_lines(there, made):
 
 # Syncs and writes
 
+def expiries(commands):
+    return data_of(b'%d 0 expire' % number for number in range(1, commands + 1))
+
+
 def few_syncs(there, made, commands, *beside):
     """Two for each 64 commands, and two of the opening. A busy machine may part a few batches, the more the slower commands come."""
     formats(there, STATIONS, LONG)
-    there.write(LINES, data_of(b'%d 0 expire' % number for number in range(1, commands + 1)))
-    wanted, env = given(there, there.path(LINES).read_bytes()), made.environment(files=())
+    wanted, env = given(there, expiries(commands)), made.environment(files=())
     env['LD_PRELOAD'] = ':'.join([env['LD_PRELOAD'], *beside])
     there.gives(['run', DISK, LINES], 0, wanted.text(), env=env)
     batches = -(-commands // AT_HAND)
@@ -212,7 +216,7 @@ def by_standard_streams(there, made):
 
 def few_writes(there, made, commands, way):
     """The answers to 64 lines of one read are written at once."""
-    there.write(LINES, data_of(b'%d 0 expire' % number for number in range(1, commands + 1)))
+    there.write(LINES, expiries(commands))
     way(there, made)
     writes, most = sum(done.kind == 'o' for done in made.record()), -(-commands // AT_HAND)
     compare(f'{writes} writes for {commands} answers are at most {most}', 0 < writes <= most, True)
@@ -228,40 +232,55 @@ def few_reads(there, made, way):
 
 # A writer that fails
 
-def done_by(wanted, answered):
-    """The least and the greatest number of commands that may be done when so many bytes of the answers are written."""
+def length_of(wanted):
+    return sum(len(text(told)) for told in wanted.answers)
+
+
+def done_by(wanted, answered, at_hand):
+    """The least and the greatest number of commands that may be done when so many bytes of the answers are written, and so many lines may
+    be at hand."""
     ends, end = [], 0
     for told in wanted.answers:
         end += len(text(told))
         ends.append(end)
     whole = sum(end <= answered for end in ends)
     counts = [0, *wanted.counts]
-    return counts[whole], counts[min(whole + AT_HAND, len(wanted.lines))]
+    return counts[whole], counts[min(whole + at_hand, len(wanted.lines))]
 
 
-def fails_at(cutting, wanted, room, cuts):
+def fails_at(cutting, wanted, room, cuts, stations=1):
+    """How many commands are done. With the pairs that are left out there are so many stations, which share the lines at hand."""
     there, told = cutting.there, text(line for told in wanted.answers for line in told)
     there.copy(READY, DISK)
     there.path(OUT).write_bytes(b'')
     env = cutting.environment(cuts, OUTPUT=there.path(OUT), ROOM=room)
-    there.gives(['serve', DISK, LINES, OUT], 4, err=file_fault(OUT), env=env)
+    there.gives(['serve', DISK, LINES, OUT, *['-', '-'] * (stations - 1)], 4, err=file_fault(OUT), env=env)
     compare('what was written', there.path(OUT).read_bytes(), told[:room])
-    register, (least, most) = register_of(there.image()), done_by(wanted, room)
+    register, (least, most) = register_of(there.image()), done_by(wanted, room, AT_HAND // stations)
     compare(f'{register.count} commands are {least} to {most}', least <= register.count <= most, True)
     compare('the disk has a prefix of the commands', are_same(register, wanted.registers[register.count]), True)
+    return register.count
+
+
+def fails_at_once(cutting, stations):
+    """OUT takes nothing of the answers to commands that are read whole: as many are done as may be at hand."""
+    wanted = given(cutting.there, expiries(2 * AT_HAND))
+    compare('commands done', fails_at(cutting, wanted, 0, [], stations), AT_HAND // stations)
 
 
 def writers(cutting, dice, count, words):
-    """At each byte of the answers to a short text, and at some of a long one that is read whole."""
+    """At each byte of the answers to a short text; and of a station alone, and beside a pair that is left out, at some of a long one that
+    is read whole."""
     wanted = given(cutting.there, TEXT)
-    every = sum(len(text(told)) for told in wanted.answers)
-    for room in range(every):
+    for room in range(length_of(wanted)):
         count.case(f'OUT takes {room} bytes', fails_at, cutting, wanted, room, [])
-    data = data_of(lines(dice, words.lines))
-    wanted = given(cutting.there, data)
-    every = sum(len(text(told)) for told in wanted.answers)
-    for room in dice.sample(range(every), words.streams * 4):
-        count.case(f'OUT takes {room} bytes of a long stream', fails_at, cutting, wanted, room, dice.choice([[], places(dice, len(data))]))
+    for stations in 1, 2:
+        count.case(f'OUT takes nothing, {stations} stations', fails_at_once, cutting, stations)
+        data = data_of(lines(dice, words.lines))
+        wanted = given(cutting.there, data)
+        for room in dice.sample(range(length_of(wanted)), words.streams * 2):
+            cuts = dice.choice([[], places(dice, len(data))])
+            count.case(f'OUT takes {room} bytes of a long stream, {stations} stations', fails_at, cutting, wanted, room, cuts, stations)
 
 
 def main():

@@ -18,7 +18,7 @@ import rows
 from changed_outputs import CHANGES, kept_of
 from disk_files import DISK, MEMORY, MISSING, file_fault, place, register_of, shows_all, text, untouched
 from made_disks import FORMS
-from many_files import LONG, SHORTEST, Files, by_chance, empty, formats, ordered, ran, runs, stands_for
+from many_files import LONG, SHORTEST, Files, by_chance, empty, formats, ordered, ran, runs, stands_for, told_to_each
 from progress import SLOW
 from reading_disks import NUMBERED, layout_on, opens, records_in, told_in
 from reading_orders import NoOrder, answered, is_troubled, judged, parts
@@ -278,21 +278,14 @@ def not_read_to_its_end(place, made, dice):
 def without_a_thread(place, made, number):
     """The station for which no thread can be made is out of memory before its first line. The others are served."""
     files, env = Files([[b'%d 0 expire' % sequence for sequence in range(1, 6)]] * 3), refusing.environment(made, 0, thread=number)
-    outs = [f'{station}.out' for station in (1, 2, 3)]
-    served = ['serve', DISK, *(name for pair in zip(files.names, outs) for name in pair)]
-    for words in files.words, served:
+    for words in files.words, files.served:
         formats(place, 3, SHORTEST)
         files.write(place)
-        done = subprocess.run([*place.command, *words], stdin=subprocess.DEVNULL, capture_output=True, cwd=place.folder, timeout=SECONDS, env=env)
-        compare('status and standard error', (done.returncode, done.stderr), (5, b'fault: memory\n'))
-        told = parts(done.stdout, files.names) if words == files.words else [lines_in(place.path(name)) for name in outs]
+        done = ran(place, files, words, env=env)
+        compare('status and standard error', (done.status, done.err), (5, b'fault: memory\n'))
+        told = told_to_each(place, files, words, done.out)
         compare('lines answered', [len(one) for one in told], [0 if station == number else 5 for station in (1, 2, 3)])
         compare('commands on the disk', register_of(place.image()).count, 10)
-
-
-def lines_in(path):
-    """Those of a file, if it is there."""
-    return path.read_text().splitlines() if path.exists() else []
 
 
 def shared_syncs(place):

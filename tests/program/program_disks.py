@@ -1,6 +1,6 @@
 #!/usr/bin/env python3
-"""Runs format, run and show of the built program: the sample, each fault line with its status, and what is left of the files.
-Prints the cases that fail, and last 'N passed, M failed'.
+"""Runs format, run and show of the built program: the sample, each fault line with its status, and what is left of the files. Refuses each
+allocation in turn while the files of one station, or of two, are served. Prints the cases that fail, and last 'N passed, M failed'.
 Usage: tests/run program_disks PROGRAM (the program itself, not a script that starts it)"""
 import fcntl
 import os
@@ -17,16 +17,22 @@ from disk_files import DISK, EXISTS, MEMORY, MISSING, NOT_A_FILE, SECTORS, file_
 from disk_files import place as in_memory
 from file_cases import as_nobody
 from made_disks import FORMS
+from many_files import Files, ordered, ran, stands_for, told_to_each
 from program import TOP
-from reading_disks import figures
+from reading_disks import NUMBERED, figures
+from reading_orders import Answered, is_command
 from running import SECONDS, Differs, compare
 from station_lines import apart, data_of
+from station_stops import READY, begins, followed, order_left
 
 FORMATTED = f'formatted {SECTORS} sectors\n'.encode()
 LINES = b'1 0 rule 234-14-0/24 1 99 1 3600\n2 10 mm 234-14-2001 7 10:260\n'
 FIRST = b'1 ok 1 -\n2 ok 2 8:56\n'
 AGAIN = b'1 no old-sequence 2\n2 kept 2 8:56\n'
 WHERE = b'where 234-14-2001 station 1 la 7 present\n'
+NETWORKS = b'234-14', b'234-15'
+# The sectors of a journal in which no checkpoint begins beside their commands
+LONG_ENOUGH = 128
 
 
 def fault(text):
@@ -343,54 +349,73 @@ def no_memory(place):
             place.gives(words, 5, err=fault('memory'), env=refusing.environment(made, 1))
 
 
-def said_before(out):
-    """The answers of a run before the first `no memory`. A command is answered `kept` if it was kept and memory then ran out before
-    the sessions could see it. Here such an answer counts as `ok`, and the query after it, which may not see it, is left out."""
-    said = re.sub(rb'^[^\n]* no memory\n.*', b'', out, flags=re.M | re.S)
-    said = said.split(b'where ')[0] if b' kept ' in said else said
-    return re.sub(rb'^(\d+) kept ', rb'\1 ok ', said, flags=re.M)
+# Memory that ends
+
+def of_network(network):
+    """A station's lines: a rule and a radio of this network, six messages whose PDUs take memory, and a query. Each command is accepted
+    whatever the stations of other networks send."""
+    more = text(f'{sequence} 20 sds 234-14-2001 234-14-2001 392:8200{sequence:02X}' + '5A' * 46 for sequence in range(3, 9))
+    return (LINES + more + b'where 234-14-2001').replace(b'234-14', network).split(b'\n')
 
 
-def with_one_refused(place, made, words, number):
-    """The program with the allocation of that number refused: how it ends, and how many allocations it asked for."""
+def known(lines, said):
+    """A station's lines with the answers that an order of the commands has to give. A line that memory ran out for is as if it had not come.
+    A command may be answered `kept` that was kept when memory ran out before the sessions could see it: so it is accepted, and a query
+    after it may not see it."""
+    lags = False
+    for line, told in zip(lines, said):
+        lags |= ' kept ' in told
+        is_lost = told.endswith(' no memory') or lags and not is_command(line)
+        yield Answered(b'', []) if is_lost else Answered(line, [told.replace(' kept ', ' ok ')])
+
+
+def order_with_lines_lost(place, files, told):
+    """The order of the commands on the disk, which gives all answers. None that memory ran out for is among them."""
+    order = order_left(place, files, None)
+    for station, (lines, said) in enumerate(zip(files.lines, told), 1):
+        followed(order, station, list(known(lines, said)))
+        lost = [line for line, one in zip(lines, said) if one.endswith(' no memory')]
+        compare('out of memory and on the disk', [line for line in lost if order.has(station, line)], [])
+    return order
+
+
+def with_one_refused(place, made, files, words, number):
+    """The program with the allocation of that number refused: how it ends, and how many allocations it asked for. All that it did is judged,
+    and the next run, which answers as if nothing had been. Only a station with a fault has lines without answers."""
+    place.copy(READY, DISK)
     held = place.path('held')
-    ended = subprocess.run([*place.command, *words], stdin=subprocess.DEVNULL, capture_output=True, timeout=SECONDS, cwd=place.folder,
-                           env=refusing.environment(made, number, held=str(held)))
-    return ended, refusing.held_blocks(held)[1]
+    done = ran(place, files, words, env=refusing.environment(made, number, held=str(held)))
+    asked = refusing.held_blocks(held)[1]
+    compare('standard error', done.err, fault('memory') if done.status == 5 else b'')
+    told = told_to_each(place, files, words, done.out)
+    lacking = [len(lines) - len(said) for lines, said in zip(files.lines, told)]
+    compare(f'lines without an answer {lacking}', (min(lacking) >= 0, any(lacking)), (True, done.status == 5))
+    left = order_with_lines_lost(place, files, told)
+    again = ran(place, files)
+    compare('status and standard error of the next run', (again.status, again.err), (0, b''))
+    stands_for(place, ordered(left.registers[-1], files, again.out).registers[-1])
+    return done, asked
 
 
-def memory_that_ends(place, form, good, words):
+def memory_that_ends(place, made, files, words):
     """Another thread may ask for more or less, so the last numbers are past all of them."""
-    place.begins(form, 'new.img')
     statuses, number, every = set(), 0, 1
-    with refusing.library() as made:
-        while number < every + 3:
-            place.copy('new.img', 'd.img')
-            program, asked = with_one_refused(place, made, words, number)
-            statuses, number, every = statuses | {program.returncode}, number + 1, max(every, asked)
-            compare('standard error', program.stderr, fault('memory') if program.returncode == 5 else b'')
-            compare(f'{program.stdout!r} is a prefix of the answers', good.startswith(said_before(program.stdout)), True)
-            again = subprocess.run([*place.command, 'run', 'd.img', 'a.txt'], capture_output=True, timeout=SECONDS, cwd=place.folder)
-            compare('status of the next run', again.returncode, 0)
-            place.gives(['show', 'd.img', 'count'], 0, b'count 8\n')
-            place.gives(['show', 'd.img', 'where', '234-14-2001'], 0, WHERE)
+    while number < every + 3:
+        done, asked = with_one_refused(place, made, files, words, number)
+        statuses, number, every = statuses | {done.status}, number + 1, max(every, asked)
     compare('statuses', sorted(statuses), [0, 1, 5])
 
 
 def memory_that_ends_between(place):
-    """Each allocation in turn is refused: that is a fault, or the answer to a line; then all is answered as if nothing had been. The
-    lines come together."""
-    with in_memory(place.command, MEMORY) as there:
-        all_memory_that_ends(there)
-
-
-def all_memory_that_ends(place):
-    more = text(f'{sequence} 20 sds 234-14-2001 234-14-2001 392:8200{sequence:02X}' + '5A' * 46 for sequence in range(3, 9))
-    place.write('a.txt', LINES + more + b'where 234-14-2001\n')
-    good = FIRST + text(f'{number} ok {number} -' for number in range(3, 9)) + WHERE
-    for form in FORMS:
-        memory_that_ends(place, form, b'station 1 a.txt\n' + good, ['run', 'd.img', 'a.txt'])
-        memory_that_ends(place, form, good, ['serve', 'd.img', 'a.txt', '/dev/stdout'])
+    """Each allocation in turn is refused, under one station on disks of both layouts, and under two: that is a fault, or the answer to lines;
+    then all is answered as if nothing had been. The lines come together."""
+    with in_memory(place.command, MEMORY) as there, refusing.library() as made:
+        for form, stations in *((form, 1) for form in FORMS), (NUMBERED, 2):
+            files = Files([of_network(network) for network in NETWORKS[:stations]])
+            files.write(there)
+            begins(there, form, LONG_ENOUGH, READY)
+            for words in files.words, files.served:
+                memory_that_ends(there, made, files, words)
 
 
 CASES = [
