@@ -47,7 +47,7 @@ module _ (A : Type 0) {W : Type 0} (took : W → List Byte → W → Type 0) (fa
   IsUndumped old new (dump.Opening fault) = IsUnopened A old new fault × (after ≡ before)
   IsUndumped old new (dump.Writing fault) = IsUnwrittenBy old fault
 
--- A dump was refused, and this fault is reported for the reason. Why says what the reason states of the disk's views before and after.
+-- A dump was refused, and this fault is reported for the reason. Why relates the disk's views before and after to the reason.
 abbrev pub ReportsDump : (View → View → DiskDumpFault → Type 0) → View → View → Fault → Type 0
 ReportsDump Why old new fault = (reason : DiskDumpFault) × Why old new reason × IsOfDump reason fault
 
