@@ -20,8 +20,7 @@ use Rattle.served_disk.specs.Making.{IsOfTaking}
 abbrev pub WasRead : View → View → Type 0
 WasRead old new = before_reads new.calls ≡ old.calls ++ Sync ∷ []
 
--- A disk was read, or a call that was to read it was refused before its first read. In the second case Fails holds, which says that the sync failed,
--- and no call was added.
+-- A disk was read, or it had no further call. In the second case Fails holds, which speaks of the fault that was returned.
 abbrev pub WasReadAtMost : Type 0 → View → View → Type 0
 WasReadAtMost Fails old new = WasRead old new ⊎ (Fails × (new.calls ≡ old.calls))
 
@@ -33,8 +32,8 @@ IsOnlyRead calls = before_reads calls ≡ Sync ∷ []
 abbrev pub IsReadAtMost : Fault → List Call → Type 0
 IsReadAtMost fault calls = IsOnlyRead calls ⊎ ((fault ≡ Device) × (calls ≡ []))
 
--- A call that only reads the disk in the file of this name was refused. May says which faults the call may report. If the disk comes back, it has
--- been at most read (`IsReadAtMost`). If no disk comes back, the file was not taken as a disk.
+-- A call that only reads the disk in the file of this name was refused. May says which faults the call may report. If the disk comes back, it was at
+-- most read (`IsReadAtMost`). If no disk comes back, the fault is one of taking the file as a disk (`IsOfTaking`).
 pub record IsReadRefused {F : Type 0} (May : List Byte → Fault → Type 0) (name : List Byte) (e : Refused F) : Type 0 where
   pub kinds : May name e.fault
   pub some_calls : IfSome e.disk (λ disk. IsReadAtMost e.fault (calls_of disk))

@@ -18,7 +18,7 @@ use Rattle.served_disk.specs.Faults.{IsOfDump, Names}
 use Rattle.served_disk.specs.Making.{IsOfOpening}
 use Rattle.served_disk.specs.Refusals.{IsUnopened}
 
--- the text of this register was written once, after what the writer held. Given is what is known of the writer's contents before and after
+-- The text of this register was written once, after what the writer held. `before` and `after` are what is known of the writer's contents.
 pub record IsDumped (before after : Option (List Byte)) (s : State) : Type 0 where
   pub state : IsState s
   pub ranges : StateInRange s
@@ -26,8 +26,8 @@ pub record IsDumped (before after : Option (List Byte)) (s : State) : Type 0 whe
 
 -- Of a writer, `contents` is what is known of its contents. `took` and `flushed` relate the writer before and after it takes bytes or is flushed.
 module _ (A : Type 0) {W : Type 0} (contents : W → Option (List Byte)) (took : W → List Byte → W → Type 0) (flushed : W → W → Type 0) (before after : W) where
-  -- The text of a register was written. The contents of the writer say so where they are known, and its calls say so. If the disk is honest, the
-  -- register is the one that the disk's image opens to.
+  -- The text of a register was written: so say the writer's calls, and its contents where they are known. If the disk is honest, the register is
+  -- the one that the disk's image opens to.
   pub record IsDumpedBy (disk : View) : Type 0 where
     pub register : State
     pub kept : disk.honest → OpensTo A register disk.reads
@@ -47,7 +47,7 @@ module _ (A : Type 0) {W : Type 0} (took : W → List Byte → W → Type 0) (fa
   IsUndumped old new (dump.Opening fault) = IsUnopened A old new fault × (after ≡ before)
   IsUndumped old new (dump.Writing fault) = IsUnwrittenBy old fault
 
--- the fault that is reported where a dump was refused. Why says for which reason, by the views of the disk before and after
+-- A dump was refused, and this fault is reported for the reason. Why relates the disk's views before and after to the reason.
 abbrev pub ReportsDump : (View → View → DiskDumpFault → Type 0) → View → View → Fault → Type 0
 ReportsDump Why old new fault = (reason : DiskDumpFault) × Why old new reason × IsOfDump reason fault
 

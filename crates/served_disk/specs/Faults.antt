@@ -51,7 +51,7 @@ dump_line_text line what = dump_line_number_text line ++ (what ++ codes "\n")
 abbrev pub named_text : List Byte → List Byte
 named_text name = codes "fault: file " ++ name ++ codes "\n"
 
--- the line of a fault; of a file, the line of the cause follows
+-- the line of a fault; after that of a file comes the line of its cause
 abbrev pub fault_text : Fault → List Byte
 fault_text fault.Settings = codes "fault: settings\n"
 fault_text (fault.File name cause) = named_text name.now ++ open_cause_text cause
@@ -90,7 +90,7 @@ abbrev pub Names : Fault → List Byte → OpenCause → Type 0
 Names (fault.File name cause) text given = (name.now ≡ text) × (cause ≡ given)
 Names other text given = ⊥
 
--- a call gives a value of which this holds; or memory ran out
+-- P holds of a call's value; its only fault is `Memory`
 abbrev pub OrMemory : {X : Type 0} → Result X Fault → (X → Type 0) → Type 0
 OrMemory result P = MatchResult result P (λ e. e ≡ fault.Memory)
 

@@ -37,6 +37,6 @@ IsReadAs made (fault.DumpLine line cause) = made ≡ Err (load.Line line cause)
 IsReadAs made (fault.DumpCut line) = made ≡ Err (load.Cut line)
 IsReadAs made other = Unit {0}
 
--- the fault that is reported for a fault of reading the file of this name for which P holds
+-- P holds of a fault of reading the file of this name, and this fault is reported for it
 abbrev pub ReportsLoad : (LoadFault → Type 0) → List Byte → Fault → Type 0
 ReportsLoad P name fault = (reason : LoadFault) × P reason × IsOfLoad reason name fault

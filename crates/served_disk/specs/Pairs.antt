@@ -20,8 +20,8 @@ use Rattle.served_disk.specs.Files.{is_left_out, known_of}
 abbrev pub numbered : {X : Type 0} → List X → List (Station × X)
 numbered xs = enumerate_from 1 xs
 
--- The files of a pair after opening IN and then OUT has given these answers. The pair keeps the files only if both were opened. If only OUT was not,
--- the pair notes that OUT lacks.
+-- The files of a pair after opening IN and then OUT has given these answers. The pair keeps the files only if both were opened. If IN was opened and
+-- OUT was not, the pair notes that it lacks OUT.
 abbrev pub opened_by : Result File Error → Result File Error → OpenFiles → OpenFiles
 opened_by (Err error) output old = old
 opened_by (Ok file) (Err error) old = record { lacks_output = true; input = old.input; output = old.output }

@@ -50,7 +50,7 @@ module _ (A : Type 0) where
   abbrev pub IsUnchecked : View → View → StoreFault → Type 0
   IsUnchecked old new = HasReason IsOfOpening (λ fault. FailsCheck fault old.reads) (MeetsNoDamage old new) old new
 
--- the fault that is reported where a call was refused. Why says for which reason, by the views of the disk before and after
+-- A call was refused, and this fault is reported for the reason. Why relates the disk's views before and after to the reason.
 abbrev pub Reports : (View → View → StoreFault → Type 0) → View → View → Fault → Type 0
 Reports Why old new fault = (reason : StoreFault) × Why old new reason × (fault ≡ of_store reason)
 

@@ -80,7 +80,7 @@ abbrev pub side_text : Side → List Byte
 side_text side.A = codes "A"
 side_text side.B = codes "B"
 
--- the first word of a line of figures, with layout, side and epochs
+-- the beginning of a line of figures: its first word, the layout, the side and the epochs
 abbrev pub epochs_text : List Byte → Figures → List Byte
 epochs_text word figures = word ++ codes " layout " ++ decimal figures.layout ++ codes " side " ++ side_text figures.side
     ++ codes " epoch " ++ decimal figures.epoch ++ codes " left " ++ decimal figures.epochs_left

@@ -20,8 +20,8 @@ use Rattle.served_disk.specs.Faults.{IsOfRun, fault_status}
 use Rattle.served_disk.specs.Printing.{station_text}
 
 -- Stations 1, 2 and so on were served over a store that was opened, each with the lines and to the writer of its port. `orders` says which of them
--- may give orders, and `turns` is the most calls of each reader. `served` has the run of each station, the disk of the store, to which nothing more
--- was done, and whether the store broke.
+-- may give orders, and `turns` is the most calls of each reader. `unread` and `written` are what is known of a reader's bytes and of a writer's
+-- contents. `served` has the run of each station, and whether the store broke. It also has the store's disk, to which nothing more was done.
 pub record AreServed {D I O : Type 0} (disk : D → View) (J : Type 0) (base : State) (orders : Orders) (turns : ℕ) (unread : I → Option (List Byte)) (written : O → Option (List Byte))
     (opened : StoreView Global D) (ports : List (Port I O)) (served : Served D I O) : Type 0 where
   pub store : StoreView Global D
@@ -80,6 +80,6 @@ module _ {I O : Type 0} where
   HaveEnded names runs (Ok troubled) = All IsWhole runs × (troubled ≡ list_any is_troubled runs)
   HaveEnded names runs (Err reported) = IsFirst names runs reported
 
-  -- a service over a sound disk has ended, with the exit status for how its runs have ended
+  -- all runs of a service have ended, and its result is the exit status for how they ended
   abbrev pub HasServiceEnded : List PortNames → List (StationRun I O) → Result ℕ Fault → Type 0
   HasServiceEnded names runs result = (end : Result Bool Fault) × HaveEnded names runs end × (result ≡ Ok (end_status end))

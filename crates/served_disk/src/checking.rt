@@ -266,7 +266,7 @@ pub(crate) fn report_on<A: Allocator + Copy + Drop, D: Disk>(
 /// Checks both sides of a disk. The disk is synced once, and then only read. It is returned, also after a fault.
 ///
 /// # Errors
-/// There is no layout on the disk, the device has failed, or out of memory. Out of memory masks no bad row or record that was read, and no
+/// There is no layout on the disk, the device has failed, or memory ran out. Out of memory masks no bad row or record that was read, and no
 /// refused command before the one for which memory ran out. It may mask a refused command after that one.
 ///
 /// Damage is no error: the text reports it. But the fault may be `Damaged` in place of a report: memory ran out after damage was found. It
@@ -296,7 +296,7 @@ pub fn check_on<A: Allocator + Copy + Drop, D: Disk>(
 /// counts the sectors that are read.
 ///
 /// # Errors
-/// Those of `open_disk`, but `Damaged` only as `check_on` returns it. `Memory` also comes if there is none for a text of 1,024 bytes.
+/// Those of `open_disk`, but `Damaged` only as `check_on` returns it. `Memory` also comes if there is no memory for a text of 1,024 bytes.
 pub fn check_disk<'a, F: SectorFile, R: DiskFiles<F> + Clock + Eprint>(
     rt: &R,
     alloc: Global,

@@ -45,9 +45,9 @@ pub(crate) fn dump<A: Allocator + Clone, B: Allocator + Clone, W: TextSink>(
 /// after a fault.
 ///
 /// # Errors
-/// `Opening` for a fault of what is on the disk, the device if it has failed, and out of memory, which hides no bad row or record
-/// that was read: nothing is written. `Writing` only if the writer failed, or if memory ran out and the writer did not fail: a prefix of the
-/// text is written.
+/// `Opening` for a fault of what is on the disk, for a device that has failed, and if memory ran out. Nothing is written then. Out of
+/// memory hides no bad row or record that was read. `Writing` only if the writer failed, or if memory ran out and the writer did not
+/// fail. A prefix of the text is written then.
 pub fn dump_on<A: Allocator + Copy + Drop, D: Disk, W: TextSink>(
     alloc: A,
     disk: D,

@@ -210,7 +210,8 @@ fn print_twice<W: Write>(out: &mut W, name: &str) -> io::Result<()>
 }
 
 fn print_not_served<W: Write>(out: &mut W, station: u16) -> io::Result<()>
-    ensures { OnOk result (Appends (W.contents out.old) (W.contents out.new) (codes "fault: station " ++ decimal station ++ codes " of --orders is not served\n")) }
+    ensures { OnOk result (Appends (W.contents out.old) (W.contents out.new)
+        (codes "fault: station " ++ decimal station ++ codes " of --orders is not served\n")) }
 {
     let parts = [
         LinePart::Text("fault: station "),

@@ -8,7 +8,7 @@ ghost use Rattle.served_disk.specs.Faults.{OrMemory};
 ghost use Rattle.served_disk.specs.Files.{IsNotRead, IsOfFiles, IsOfNames, not_served};
 ghost use Rattle.served_disk.specs.Pairs.{IsFilePortOf, names_of_files, numbered};
 
-use crate::{Fault, PortNames, Progress, StationFiles, WatchedReader};
+use crate::{Fault, PortNames, ProgressReport, StationFiles, WatchedReader};
 use file_disk::OpenCause;
 use recovery::Store;
 use registration::Station;
@@ -126,7 +126,7 @@ pub fn open_files<'a, 'p, 'r, R: StationFiles, C: Clock + Eprint>(
     rt: &R,
     alloc: Global,
     names: &[&'a str],
-    progress: &'p Progress<'r, C>,
+    progress: &'p ProgressReport<'r, C>,
 ) -> Result<Vec<FilePort<'p, 'r, C>>, Fault<'a>>
     requires few { length names.now ≤ 64 }
     ensures opened { IfOk result (λ ports. AllZip (IsFilePortOf (R.opened rt.now)) (numbered names.now) ports.items) }

@@ -50,7 +50,7 @@ pub use pairs::{
 };
 pub use port_names::PortNames;
 pub use printing::{print_formatted, print_loaded, print_station};
-pub use progress::Progress;
+pub use progress::ProgressReport;
 pub use refused::Refused;
 pub use rest::{RestReport, rest_disk, rest_on};
 pub use running::serve_stations;

@@ -36,7 +36,7 @@ pub(crate) fn adopt_disk<'a, F: SectorFile, R: DiskFiles<F>>(
 ///
 /// # Errors
 /// `File` if the file can't be opened or another process holds it; `Unformatted`, `BadGeometry` or `Damaged` for what is on the
-/// disk; `Device` only if the file can't be taken as a disk or the disk has failed; and `Memory`, which hides no bad row or record
+/// disk; `Device` only if the file can't be taken as a disk or the disk has failed; and `Memory`. Out of memory hides no bad row or record
 /// that was read.
 pub fn open_disk<'a, 's, F: SectorFile, R: DiskFiles<F>>(
     rt: &R,

@@ -110,7 +110,7 @@ impl<'a> Pair<'a> {
     pub fn new(input: &'a str, output: &'a str) -> Pair<'a>
         ensures { IsPairOf (input.entry, output.entry) result }
     {
-        Pair::named(input, output, !is_left_out(input, output))
+        Pair::of_names(input, output, !is_left_out(input, output))
     }
 
     /// The standard streams, which faults name `-`. They are open. No `PairReader` reads such a pair: by these names the reader would end
@@ -118,10 +118,10 @@ impl<'a> Pair<'a> {
     pub fn of_streams() -> Pair<'a>
         ensures { AreStreams result }
     {
-        Pair::named("-", "-", true)
+        Pair::of_names("-", "-", true)
     }
 
-    fn named(input: &'a str, output: &'a str, is_served: bool) -> Pair<'a>
+    fn of_names(input: &'a str, output: &'a str, is_served: bool) -> Pair<'a>
         ensures input { result.input.now ≡ input.now }
         ensures output { result.output.now ≡ output.now }
         ensures served { result.is_served ≡ is_served }
@@ -146,7 +146,7 @@ impl<'a> Pair<'a> {
     }
 
     /// The notice that the lines of this station are served.
-    pub(crate) fn started(&self, station: u64) -> Notice<'a>
+    pub(crate) fn start_notice(&self, station: u64) -> Notice<'a>
         ensures { result ≡ Started station self.now.input self.now.output }
     {
         Notice::Started {
@@ -232,7 +232,7 @@ impl<'p, 'a, R: Eprint + Wait> PairReader<'p, 'a, R> {
         if is_open && self.log {
             let _ = self
                 .pair
-                .started(self.station)
+                .start_notice(self.station)
                 .report(self.rt, self.host.alloc());
         }
     }

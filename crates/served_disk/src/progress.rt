@@ -19,10 +19,10 @@ use std::time::Duration;
 /// `12000 lines, 11998 accepted`: the lines of all stations that were served, and the commands among them that were accepted.
 /// A report that fails changes nothing.
 ///
-/// A reader gives pieces of at most 65,536 bytes. Within a piece, lines count when they come to the desk; the others count at the
-/// piece's end. Threads may share it: each counts the lines of its own station.
+/// A line that the desk answers counts at once. Any other line counts when its station's reader is next called, or when the run has ended.
+/// Threads may share it: each counts the lines of its own station.
 #[derive(Drop)]
-pub struct Progress<'r, R> {
+pub struct ProgressReport<'r, R> {
     rt: &'r R,
     pace: Pace<'r, R>,
     /// Whether no flusher makes rounds. Then the progress is reported when a line is counted.
@@ -48,7 +48,7 @@ fn no_lines(alloc: Global, stations: usize) -> Result<Vec<AtomicU64>, AllocError
     Ok(lines)
 }
 
-impl<'r, R: Clock + Eprint> Progress<'r, R> {
+impl<'r, R: Clock + Eprint> ProgressReport<'r, R> {
     /// Nothing is served yet. It is never reported if it is not watched or there is no clock.
     fn new(rt: &'r R, watched: bool, is_alone: bool, lines: Vec<AtomicU64>) -> Self
         ensures unwatched { watched ≡ false → result.pace.began ≡ None }
@@ -59,7 +59,7 @@ impl<'r, R: Clock + Eprint> Progress<'r, R> {
         let rest = pace
             .is_watched()
             .then_some(Duration::from_secs(BETWEEN_REPORTS));
-        Progress {
+        ProgressReport {
             rt,
             pace,
             is_alone,
@@ -76,7 +76,7 @@ impl<'r, R: Clock + Eprint> Progress<'r, R> {
         ensures lines { IfOk result (λ progress. length progress.lines.items ≡ 1) }
     {
         let lines = no_lines(alloc, 1)?;
-        Ok(Progress::new(rt, watched, true, lines))
+        Ok(ProgressReport::new(rt, watched, true, lines))
     }
 
     /// The progress of this many stations, which a flusher serves. It is reported in the flusher's thread.
@@ -91,7 +91,7 @@ impl<'r, R: Clock + Eprint> Progress<'r, R> {
         ensures lines { IfOk result (λ progress. length progress.lines.items ≡ stations) }
     {
         let lines = no_lines(alloc, stations)?;
-        Ok(Progress::new(rt, watched, false, lines))
+        Ok(ProgressReport::new(rt, watched, false, lines))
     }
 
     /// How many lines of a station are known to be served.
@@ -139,7 +139,7 @@ impl<'r, R: Clock + Eprint> Progress<'r, R> {
     }
 
     /// How many lines of all stations are known to be served.
-    fn served(&self) -> u64 {
+    fn lines_of_all(&self) -> u64 {
         let mut sum: u64 = 0;
         for lines in &self.lines {
             sum = sum.saturating_add(lines.load(Ordering::SeqCst));
@@ -155,7 +155,7 @@ impl<'r, R: Clock + Eprint> Progress<'r, R> {
     }
 
     fn report(&self, end: &str) -> io::Result<()> {
-        let lines = self.served();
+        let lines = self.lines_of_all();
         let accepted = self.accepted.load(Ordering::SeqCst);
         eprint!(self.rt; "\r{lines} lines, {accepted} accepted{end}")
     }
@@ -176,7 +176,7 @@ impl<'r, R: Clock + Eprint> Progress<'r, R> {
     }
 }
 
-impl<'r, R: Clock + Eprint + Wait> Gate for Progress<'r, R> {
+impl<'r, R: Clock + Eprint + Wait> Gate for ProgressReport<'r, R> {
     /// A round that has taken no command leaves the processor to the stations.
     fn before_commit(&self, _round: u64, taken: usize) {
         self.report_each_second();
@@ -184,7 +184,7 @@ impl<'r, R: Clock + Eprint + Wait> Gate for Progress<'r, R> {
     }
 }
 
-impl<'r, R: Clock + Eprint + Wait> Watch for Progress<'r, R> {
+impl<'r, R: Clock + Eprint + Wait> Watch for ProgressReport<'r, R> {
     fn before_entry(&self, _station: Station) {
         self.doorbell.announce();
     }
@@ -199,6 +199,6 @@ impl<'r, R: Clock + Eprint + Wait> Watch for Progress<'r, R> {
 
     fn before_failure(&self, _station: Station) {}
 
-    /// Faults are reported after all answers.
+    /// Reports nothing: faults are reported after all answers.
     fn after_run(&self, _station: Station, _ran: &Result<Ran, RunFault>) {}
 }

@@ -1,4 +1,4 @@
-//! Why a disk in a file was not made, opened, shown or dumped.
+//! Why a disk in a file was not made, opened, shown, dumped or checked.
 ghost use Rattle.std.specs.Prelude.{◌≡◌, Some, None};
 ghost use Rattle.served_disk.specs.Faults.{IsOfDump, IsOfFile, of_store};
 
@@ -6,7 +6,7 @@ use crate::{DiskDumpFault, Fault};
 use file_disk::{FileDisk, FileFault, SectorFile};
 use recovery::StoreFault;
 
-/// Why the disk in a file was not made, opened, shown or dumped; and the disk, if its file was opened.
+/// Why the disk in a file was not made, opened, shown, dumped or checked; and the disk, if the file gave one.
 #[derive(Drop)]
 pub struct Refused<'a, F> {
     /// Why it was refused.

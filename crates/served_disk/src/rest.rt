@@ -214,9 +214,9 @@ fn without_damage(fault: StoreFault) -> StoreFault
 /// is returned, also after a fault.
 ///
 /// # Errors
-/// `Opening` if there is no layout on the disk, the device has failed, or out of memory, which hides no missing layout: nothing is written.
-/// Damage is no error. `Writing` only if the writer failed, or if memory ran out and the writer did not fail: a prefix of the text is
-/// written.
+/// `Opening` if there is no layout on the disk, the device has failed, or memory ran out. Nothing is written then. Out of memory hides no
+/// missing layout, and damage is no error. `Writing` only if the writer failed, or if memory ran out and the writer did not fail. A prefix
+/// of the text is written then.
 pub fn rest_on<A: Allocator + Copy + Drop, D: Disk, W: TextSink>(
     alloc: A,
     disk: D,

@@ -64,11 +64,11 @@ impl<'r, 'p, 'a, R: Eprint + Wait> ServiceWatch<'r, 'p, 'a, R> {
 
     /// The service begins, over a register that has accepted this many commands. That is reported if a log is wanted.
     pub fn begin(&self, count: u64) {
-        self.note(&self.serving(count));
+        self.note(&self.serving_notice(count));
     }
 
     // The notice that the service's stations are served, over a register that has accepted this many commands.
-    fn serving(&self, count: u64) -> Notice<'a>
+    fn serving_notice(&self, count: u64) -> Notice<'a>
         ensures { result ≡ Serving (served_in self.now.pairs.now) count }
     {
         Notice::Serving {
@@ -79,17 +79,17 @@ impl<'r, 'p, 'a, R: Eprint + Wait> ServiceWatch<'r, 'p, 'a, R> {
 
     /// The lines of this station are served, and its files are open already. That is reported if a log is wanted.
     pub fn start(&self, station: Station) {
-        if let Some(notice) = self.started(station) {
+        if let Some(notice) = self.start_notice(station) {
             self.note(&notice);
         }
     }
 
     // The notice that the lines of this station are served, if there is such a station.
-    fn started(&self, station: Station) -> Option<Notice<'a>>
+    fn start_notice(&self, station: Station) -> Option<Notice<'a>>
         ensures { result ≡ started_in self.now.pairs.now station }
     {
         let pair = self.pair_of(station)?;
-        Some(pair.started(u64::from(station.number())))
+        Some(pair.start_notice(u64::from(station.number())))
     }
 
     /// Reports this if a log is wanted. A report that fails changes nothing.

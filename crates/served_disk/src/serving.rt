@@ -55,8 +55,8 @@ pub(crate) fn end_of<'a>(
     }
 }
 
-/// How all runs have ended: with the first fault, in order of station; else with whether an answer reported trouble.
-fn ended<'a, I, O: Drop>(
+/// How all runs have ended: the first fault, in order of station; else whether an answer reported trouble.
+fn end_of_runs<'a, I, O: Drop>(
     names: &[PortNames<'a>],
     runs: &[StationRun<I, O>],
 ) -> Result<bool, Fault<'a>>
@@ -70,8 +70,8 @@ fn ended<'a, I, O: Drop>(
     Ok(troubled)
 }
 
-/// How a run of stations has ended: with a disk that failed; else with the first fault, in order of station; else with whether an
-/// answer reported trouble.
+/// How a run of stations has ended: `Device` if the disk failed; else the first fault, in order of station; else whether an answer
+/// reported trouble.
 pub fn outcome<'a, D, I, O: Drop>(
     names: &[PortNames<'a>],
     served: &Served<D, I, O>,
@@ -82,7 +82,7 @@ pub fn outcome<'a, D, I, O: Drop>(
     if served.is_broken {
         return Err(Fault::Device);
     }
-    ended(names, &served.runs)
+    end_of_runs(names, &served.runs)
 }
 
 /// The exit status of stations that have ended with this result: that of the fault; else 1 if an answer reported trouble, or 0.
@@ -95,8 +95,8 @@ fn end_status(ended: &Result<bool, Fault<'_>>) -> u8
     }
 }
 
-/// How a service ends, after its stations have reported their faults: with a disk that failed; else with the exit status of the
-/// first fault, in order of station; else with 1 if an answer reported trouble, or 0.
+/// The result of a service whose stations have reported their faults: `Device` if the disk failed; else the exit status of the first
+/// fault, in order of station; else 1 if an answer reported trouble, or 0.
 pub fn service_outcome<'a, D, I, O: Drop>(
     names: &[PortNames<'a>],
     served: &Served<D, I, O>,
@@ -105,7 +105,7 @@ pub fn service_outcome<'a, D, I, O: Drop>(
     ensures { MatchBool served.now.is_broken (result ≡ Err Device) (HasServiceEnded names.now served.now.runs.items result) }
 {
     if !served.is_broken {
-        return Ok(end_status(&ended(names, &served.runs)));
+        return Ok(end_status(&end_of_runs(names, &served.runs)));
     }
     Err(Fault::Device)
 }

@@ -38,7 +38,7 @@ fn show_store<A: Allocator + Copy + Drop, D: Disk>(
 /// is synced once, and then only read. It is returned, also after a fault.
 ///
 /// # Errors
-/// A fault of what is on the disk, the device if it has failed, and out of memory, which hides no bad row or record that was read.
+/// A fault of what is on the disk, a device that has failed, or out of memory. Out of memory hides no bad row or record that was read.
 pub fn show_on<A: Allocator + Copy + Drop, D: Disk>(
     alloc: A,
     disk: D,
@@ -62,7 +62,7 @@ pub fn show_on<A: Allocator + Copy + Drop, D: Disk>(
 /// Answers a line about the disk in the file of this name, as `show_on` does about a disk.
 ///
 /// # Errors
-/// Those of `open_disk`. `Memory` also comes if there is none for a text of 1,024 bytes.
+/// Those of `open_disk`. `Memory` also comes if there is no memory for a text of 1,024 bytes.
 pub fn show_disk<'a, F: SectorFile, R: DiskFiles<F>>(
     rt: &R,
     alloc: Global,

@@ -1,4 +1,4 @@
-// The figures of a disk, as a line.
+//! The figures of a disk, as a line.
 ghost use Rattle.std.specs.Prelude.{◌≡◌, IfOk, OnOk};
 ghost use Rattle.std.specs.Io.KnownBytes.{Appends};
 ghost use Rattle.served_disk.specs.Showing.{AreFigures, epochs_text, figures_line, half_text, side_text};
@@ -22,7 +22,7 @@ pub(crate) fn side_text(side: Side) -> &'static str
     }
 }
 
-/// Writes the first word of a line of figures, with layout, side and epochs.
+/// Writes the beginning of a line of figures: its first word, the layout, the side and the epochs.
 fn print_epochs<W: Write>(out: &mut W, word: &str, figures: &Figures) -> io::Result<()>
     ensures { OnOk result (Appends (W.contents out.old) (W.contents out.new) (epochs_text word.now figures.now)) }
 {

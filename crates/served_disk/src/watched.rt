@@ -2,7 +2,7 @@
 ghost use Rattle.std.specs.Prelude.{◌≡◌};
 ghost use Rattle.served_disk.specs.Counts.{ends_in};
 
-use crate::Progress;
+use crate::ProgressReport;
 use centre_core::{Command, Query, QueryAnswer, Reply};
 use console::{Desk, Outage};
 use listings::Listing;
@@ -16,7 +16,7 @@ use std::rt::Clock;
 #[derive(Drop)]
 pub struct WatchedReader<'p, 'r, R, C> {
     reader: R,
-    progress: &'p Progress<'r, C>,
+    progress: &'p ProgressReport<'r, C>,
     station: Station,
     /// How many lines end in what the reader gave.
     lines: u64,
@@ -24,7 +24,7 @@ pub struct WatchedReader<'p, 'r, R, C> {
 
 impl<'p, 'r, R: Read, C: Clock + Eprint> WatchedReader<'p, 'r, R, C> {
     /// This reader. `progress` counts its lines as this station's.
-    pub fn new(reader: R, station: Station, progress: &'p Progress<'r, C>) -> Self
+    pub fn new(reader: R, station: Station, progress: &'p ProgressReport<'r, C>) -> Self
         ensures reader { result.reader ≡ reader }
         ensures station { result.station ≡ station }
         ensures progress { result.progress.now ≡ progress.now }
@@ -67,12 +67,12 @@ impl<'p, 'r, R: Read, C: Clock + Eprint> Read for WatchedReader<'p, 'r, R, C> {
 pub struct WatchedDesk<'p, 'r, D, C> {
     desk: D,
     station: Station,
-    progress: &'p Progress<'r, C>,
+    progress: &'p ProgressReport<'r, C>,
 }
 
 impl<'p, 'r, D, C: Clock + Eprint> WatchedDesk<'p, 'r, D, C> {
     /// This desk. `progress` counts its answers as this station's.
-    pub fn new(desk: D, station: Station, progress: &'p Progress<'r, C>) -> Self
+    pub fn new(desk: D, station: Station, progress: &'p ProgressReport<'r, C>) -> Self
         ensures desk { result.desk ≡ desk }
         ensures station { result.station ≡ station }
         ensures progress { result.progress.now ≡ progress.now }

@@ -2,7 +2,8 @@
 //! register that is kept on a disk. It reads the words of its command line, opens the files that these name, and leaves all rules to the crates below.
 #![tactic(auto)]
 
-ghost use Rattle.std.specs.Prelude.{◌≡◌, ◌≤◌, ◌⊎◌, ◌-◌, ◌^◌, Err, IfErr, IfOk, IsErrAnd, MatchResult, Ok, OnOk, Some, codes, cond, false, length, slice_get, true, ℕ};
+ghost use Rattle.std.specs.Prelude.{◌≡◌, ◌≤◌, ◌⊎◌, ◌-◌, ◌^◌, codes, cond, false, length, slice_get, true, ℕ};
+ghost use Rattle.std.specs.Prelude.{Err, IfErr, IfOk, IsErrAnd, MatchResult, Ok, OnOk, Some};
 ghost use Rattle.console.specs.Told.{EndsFor, reader_events, writer_events};
 ghost use Rattle.registration.specs.Numbers.{Station as StationNumber};
 ghost use Rattle.file_disk.specs.declared.fault.OpenCause.TheVariants.{Other};
@@ -21,7 +22,7 @@ use recovery::Store;
 use registration::{Limits, Station};
 use sector_disk::Disk;
 use served_disk::{
-    CountedReader, CountedWriter, Fault, Manner, PortNames, Progress, Served, ServiceWatch,
+    CountedReader, CountedWriter, Fault, Manner, PortNames, ProgressReport, Served, ServiceWatch,
     SyncedDisk, TURNS, Tally, WatchedDesk, WatchedReader, check_disk, check_names, check_orders,
     check_pairs, check_stations, dump_disk, file_names, format_disk, inputs_of, layout_of,
     load_register, make_disk_with, name_ended, names_of, not_read, open_disk, open_files, outcome,
@@ -85,8 +86,8 @@ fn stops_at_fault(request: &Request<'_>) -> bool {
     )
 }
 
-/// What a program and a service in a thread of its own share: where the exit code is put, when all stations have ended or the device
-/// has failed. The first that is put counts. The program then ends, and with it all threads that still run.
+/// The place for the exit code, which the program shares with a service in a thread of its own. The service puts one there when all
+/// stations have ended, or when the device has failed. The first counts. The program then ends, and with it all threads that still run.
 type Finish = Arc<OnceLock<ExitCode>, Global>;
 
 /// How many bytes the stack of such a service has: as many as that of the program's first thread.
@@ -203,7 +204,7 @@ fn serve_memory<'a>(rt: &HostRuntime) -> Result<bool, Fault<'a>> {
     };
     let talks = rt.stdin().is_terminal() || rt.stdout().is_terminal();
     let watched = rt.stderr().is_terminal() && !talks;
-    let Ok(progress) = Progress::of_one(rt, rt.alloc(), watched) else {
+    let Ok(progress) = ProgressReport::of_one(rt, rt.alloc(), watched) else {
         drop(register);
         return Err(Fault::Memory);
     };
@@ -388,7 +389,7 @@ fn run_files<'a, R: Threads + Wait + Sync + Clock + Print + Eprint + Files<File 
     check_orders(target.orders, files.len())?;
     let names = file_names(alloc, files)?;
     let store = open_for(rt, alloc, target, files.len())?;
-    let Ok(progress) = Progress::of_many(rt, alloc, watched, files.len()) else {
+    let Ok(progress) = ProgressReport::of_many(rt, alloc, watched, files.len()) else {
         drop(store);
         return Err(Fault::Memory);
     };
@@ -442,7 +443,7 @@ fn report<'a, R: Clock + Print + Eprint, D, I>(
     rt: &R,
     names: &[PortNames<'a>],
     served: &Served<D, I, Vec<u8>>,
-    progress: &Progress<'_, R>,
+    progress: &ProgressReport<'_, R>,
 ) -> Result<bool, Fault<'a>>
     requires same { length names.now ≡ length served.now.runs.items }
     requires few { length names.now ≤ 64 }

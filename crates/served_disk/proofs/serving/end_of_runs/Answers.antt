@@ -1,6 +1,6 @@
 use Rattle.std.proofs.Common.{rules}
 use Rattle.served_disk.proofs.Stations.{is_fault, none_more}
-use Rattle.served_disk.proofs.serving.ended.Goals as goal
+use Rattle.served_disk.proofs.serving.end_of_runs.Goals as goal
 
 pub returns-in_err-troubled : goal.returns-in_err-troubled
 returns-in_err-troubled g c = is_fault c.args.names.now c.args.runs.now c.loop-index.index _ _ c.end_of.result c.from_residual.result
