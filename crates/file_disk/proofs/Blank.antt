@@ -75,30 +75,6 @@ zeros_on old mid new at m place n result is filled after =
     let more : HasFilled mid new (at + m) n zeros result = rw (← is) after in
     joined old mid new at m n result filled more
 
--- a run of zeros over what a run that failed has left
-pub zeros_again : (old mid new : View) (at n : ℕ) (bytes : ℕ → List ℕ) (first result : Result Unit DiskError) → HasFilled old mid at n bytes first →
-    HasFilled mid new at n zeros result → HasFilled old new at n zeros result
-zeros_again old mid new at n bytes first result filled more =
-    record {
-      honest = more.honest;
-      crash = run_on old mid new (IsTornImage old at n) (IsTornImage mid at n) filled.crash more.crash torn;
-      now = λ image is. torn image (more.now image is);
-      count = more.count ∙ filled.count;
-      others = λ k out. more.others k out ∙ filled.others k out;
-      written = more.written;
-    }
-  where
-    torn : (image : List (List ℕ)) → IsTornImage mid at n image → IsTornImage old at n image
-    torn image (was, is, part) =
-        let before = filled.now was is in (
-          before.0,
-          before.1,
-          record {
-            count = part.count ∙ before.2.count;
-            others = λ k out. part.others k out ∙ before.2.others k out;
-          },
-        )
-
 -- ---- a piece of zeros
 
 pub piece_written : (zeros_of : List ℕ) (k : ℕ) → zeros_of ≡ replicate 65536 0 → k < 128 → take 512 (drop (512 * k) zeros_of) ≡ replicate 512 0

@@ -1,4 +1,5 @@
 mod Blank
 mod GivenUp
 mod Parts
+mod Runs
 mod Walks

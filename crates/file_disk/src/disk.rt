@@ -1,19 +1,23 @@
 // A disk over a file.
-ghost use Rattle.std.specs.Prelude.{◌≡◌, ◌⊎◌, ◌<◌, ◌≤◌, ◌+◌, ◌-◌, ◌*◌, ◌/◌, ◌^◌, ◌++◌, true, false, Err, IfErr, IfOk, IsErrOf, OnErr, OnOk, is_err, replicate};
+ghost use Rattle.std.specs.Prelude.{◌≡◌, ◌⊎◌, ◌<◌, ◌≤◌, ◌+◌, ◌-◌, ◌*◌, ◌/◌, ◌^◌, ◌++◌, true, false, Err, IfErr, IfOk, IsErrOf, OnErr, OnOk, is_err, length, replicate};
 ghost use Rattle.sector_disk.specs.Disk.{HasCause, HasFailed, IsCalled, HasRead, HasSynced, HasWritten, one_failure_more};
+ghost use Rattle.sector_disk.specs.Filling.{HasFilled, Runs, part_of, sectors_in};
+ghost use Rattle.sector_disk.specs.Run.{writes};
 ghost use Rattle.sector_disk.specs.declared.record.Call.TheVariants.{Read, Sync, Write};
 ghost use Rattle.sector_disk.specs.declared.disk.DiskError.TheVariants.{DiskFault, OutOfRange};
 
 use crate::history::{History, Note};
+use crate::run::write_sectors;
 use crate::whole::{read_sector, write_sector};
 use crate::zeros::fill_with_zeros;
 use crate::{FileFault, SectorFile};
-use sector_disk::{Disk, DiskError};
+use sector_disk::{Disk, DiskError, sector_in};
 
 /// A disk whose sectors are in a file, one after another from its beginning.
 ///
-/// A sector is read and written whole, in at most 1,024 calls of the file. After a failed sync every call in range is a
-/// `DiskFault`: the operating system may have dropped what it could not write, and then answer `Ok` to the next sync.
+/// A sector is read and written whole, in at most 1,024 calls of the file. A run of several sectors is written by one call; if
+/// that writes fewer, they are written one after another. After a failed sync every call in range is a `DiskFault`: the operating
+/// system may have dropped what it could not write, and then answer `Ok` to the next sync.
 ///
 /// A new disk over the same file does not know of the failed sync. It reads what the file gives, which need not be what the
 /// device holds.
@@ -31,8 +35,6 @@ pub struct FileDisk<F> {
 impl<F: SectorFile> FileDisk<F> {
     ghost use Rattle.file_disk.specs.declared.fault.FileFault.TheVariants.{KeepsNothing, NotOpened};
     ghost use Rattle.file_disk.specs.declared.fault.OpenCause.{OpenCause};
-    ghost use Rattle.sector_disk.specs.Filling.{HasFilled};
-    ghost use Rattle.sector_disk.specs.Run.{writes};
     ghost use Rattle.file_disk.specs.File.{IsGivenUp};
     ghost use Rattle.file_disk.specs.Reasons.{IsMeasured, IsNotBlank, IsUnmeasured};
     ghost use Rattle.file_disk.specs.Disk.{IsBlank, IsNew, blank_calls, calls_of, file_of, file_view, is_lost};
@@ -120,6 +122,21 @@ impl<F: SectorFile> FileDisk<F> {
         }
     }
 
+    // Notes a write of each sector of a run.
+    fn note_run(&mut self, at: u64, bytes: &[u8])
+        requires whole { length bytes.now ≡ 512 * sectors_in bytes.now }
+        requires fits { at + sectors_in bytes.now < 2 ^ 64 }
+        ensures calls { calls_of self.new ≡ calls_of self.old ++ writes at (sectors_in bytes.now) (part_of bytes.now) }
+        ensures file { (self.new.file ≡ self.old.file) × (self.new.sectors ≡ self.old.sectors) }
+        ensures kept { (self.new.lost ≡ self.old.lost) × (self.new.failures ≡ self.old.failures) }
+    {
+        for k in 0..bytes.len() / 512 {
+            self.history = self
+                .history
+                .then(&Note::Write(at + k as u64, sector_in(bytes, k)));
+        }
+    }
+
     /// The file, as the calls left it.
     pub fn into_file(self) -> F
         ensures { result ≡ file_of self }
@@ -148,7 +165,7 @@ impl<F: SectorFile> FileDisk<F> {
 
 impl<F: SectorFile> Disk for FileDisk<F> {
     ghost use Rattle.file_disk.specs.Disk.{IsLost, failures_after, file_sound, file_view, is_lost};
-    ghost use Rattle.file_disk.specs.File.{HasGivenUp, most_calls};
+    ghost use Rattle.file_disk.specs.File.{HasGivenUp, IsGivenUp, most_calls};
 
     ghost view = { file_view F.view };
 
@@ -209,6 +226,28 @@ impl<F: SectorFile> Disk for FileDisk<F> {
             return Err(self.fail());
         }
         match write_sector(&mut self.file, at, bytes) {
+            Ok(()) => Ok(()),
+            Err(_) => Err(self.fail()),
+        }
+    }
+
+    fn write_run(&mut self, at: u64, bytes: &[u8]) -> Result<(), DiskError>
+        requires whole { length bytes.now ≡ 512 * sectors_in bytes.now }
+        requires room { at + sectors_in bytes.now ≤ (file_view F.view self.old).sectors }
+        requires fits { at + sectors_in bytes.now < 2 ^ 64 }
+        ensures effect { (file_view F.view self.old).honest → HasFilled (file_view F.view self.old) (file_view F.view self.new) at
+            (sectors_in bytes.now) (part_of bytes.now) result }
+        ensures runs { Runs (file_view F.view self.old) (file_view F.view self.new) (writes at (sectors_in bytes.now) (part_of bytes.now)) result }
+        ensures counted { self.new.failures ≡ failures_after result self.old.failures }
+        ensures lost { is_lost self.old ≡ true → IsLost self.old self.new result }
+        ensures kept { is_lost self.new ≡ is_lost self.old }
+        ensures given_up { IsErrOf result DiskFault → (is_lost self.old ≡ true) ⊎ IsGivenUp F.view F.turns self.old.file self.new.file }
+    {
+        self.note_run(at, bytes);
+        if self.lost {
+            return Err(self.fail());
+        }
+        match write_sectors(&mut self.file, at, bytes) {
             Ok(()) => Ok(()),
             Err(_) => Err(self.fail()),
         }

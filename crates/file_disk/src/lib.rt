@@ -8,6 +8,7 @@ mod file;
 mod history;
 mod host;
 mod opening;
+mod run;
 mod system;
 mod whole;
 mod zeros;

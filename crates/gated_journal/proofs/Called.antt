@@ -1,7 +1,7 @@
 -- The calls that an append has made.
 use Rattle.std.proofs.Common.{◌≡◌, ℕ, zero, suc, ◌+◌, ◌*◌, ◌<◌, List, [], ◌∷◌, ◌++◌, replicate, slice_index, Result, Ok, Err, refl, sym, ap, ◌∙◌, append_assoc, arith}
 use Rattle.std.specs.Result.{OnOk}
-use Rattle.std.proofs.lemmas.List.{append-nil, get_or_past, length-replicate, get_or-replicate}
+use Rattle.std.proofs.lemmas.List.{get_or_past, length-replicate, get_or-replicate}
 use Rattle.std.proofs.lemmas.List.FromFn.{fill_by_all}
 use Rattle.sector_disk.specs.Disk.{View, IsCalled}
 use Rattle.sector_disk.specs.Run.{HasMade, writes}
@@ -68,7 +68,3 @@ pub settled_at_end : (old mid new : View) (at n : ℕ) (text : List ℕ) (result
     → OnOk result (new.calls ≡ old.calls ++ settled_calls at n text)
 settled_at_end old mid new at n text (Ok u) were called = all_made old.calls mid.calls new.calls (writes at n (data_sector text)) Sync were called.made
 settled_at_end old mid new at n text (Err e) were called = tt
-
--- all of them were made
-pub whole_made : (old new : View) (calls : List Call) → new.calls ≡ old.calls ++ calls → HasMade old new calls
-whole_made old new calls is = record { made = calls; left = []; prefix = sym (append-nil calls); now = is }

@@ -1,16 +1,17 @@
 -- What calls of the disk leave of it, and runs of such calls.
 use Rattle.std.proofs.Common.{◌≡◌, ◌<◌, ◌≤◌, ◌+◌, ℕ, List, [], ◌∷◌, ◌++◌, length, Result, Ok, Err, refl, ap, ◌∙◌, ⊎_elim, arith, length-append}
 use Rattle.std.specs.Result.{IsErr, IsErrOf}
-use Rattle.sector_disk.specs.Disk.{HasCause, HasFailed, HasRead, IsCalled, View}
+use Rattle.sector_disk.specs.Disk.{HasCause, HasRead, IsCalled, View}
 use Rattle.sector_disk.specs.Effects.{KeepsDisk, OnlyReads}
 use Rattle.sector_disk.specs.Reading.{before_reads}
 use Rattle.sector_disk.specs.declared.disk.DiskError.{DiskError}
-use Rattle.sector_disk.specs.declared.disk.DiskError.TheVariants.{DiskFault as DeviceFault, OutOfRange}
+use Rattle.sector_disk.specs.declared.disk.DiskError.TheVariants.{OutOfRange}
 use Rattle.sector_disk.specs.declared.record.Call.{Call}
 use Rattle.sector_disk.specs.declared.record.Call.TheVariants.{Read}
 use Rattle.gated_journal.specs.Reading.{IsOfJudging, IsOfReading}
 use Rattle.gated_journal.specs.declared.fault.JournalError.{JournalError}
 use Rattle.gated_journal.specs.declared.fault.JournalError.TheVariants.{Damaged, DiskFault, JournalFull, NoMemory}
+use Rattle.sector_disk.proofs.Effects.{has_failed}
 use Rattle.sector_disk.proofs.OnlyRead.{no_read, one_only_read}
 use Rattle.sector_disk.proofs.Reading.{one_read}
 
@@ -43,21 +44,6 @@ reads_none disk none = record {
 
 pub keeps_as_is : (disk : View) {X : Type 0} → (X → ⊥) → KeepsDisk disk disk X
 keeps_as_is disk none = record { fault = λ e. absurd (none e); sectors = refl; later = omega arith; honest = λ honest. honest }
-
-has_failed : {T : Type 0} (old new : View) (result : Result T DiskError) → IsErr result → HasCause old new result → (IsErrOf result OutOfRange → ⊥) → HasFailed old new
-has_failed old new (Ok x) failed cause in_range = absurd cc
-has_failed old new (Err DeviceFault) failed cause in_range = cause.fault refl
-has_failed old new (Err OutOfRange) failed cause in_range = absurd (in_range refl)
-
--- one call
-pub keeps_one : {T : Type 0} (old new : View) (result : Result T DiskError) → HasCause old new result → (IsErrOf result OutOfRange → ⊥) → (old.honest → new.honest)
-    → KeepsDisk old new (IsErr result)
-keeps_one old new result cause in_range honest = record {
-  fault = λ failed. has_failed old new result failed cause in_range;
-  sectors = cause.sectors;
-  later = cause.later;
-  honest = honest;
-}
 
 only_reads_at : (old new : View) (at : ℕ) (result : Result Unit DiskError) → IsCalled old new (Read at) result → before_reads new.calls ≡ before_reads old.calls
 only_reads_at old new at (Ok u) called = ap before_reads called.made ∙ one_read old.calls at

@@ -3,7 +3,8 @@ ghost use Rattle.std.specs.Prelude.{◌≡◌, ◌⊎◌, ◌+◌, ◌<◌, ◌�
 ghost use Rattle.sector_disk.specs.Effects.{KeepsDisk};
 ghost use Rattle.sector_disk.specs.declared.disk.DiskError.TheVariants.{OutOfRange};
 ghost use Rattle.gated_journal.specs.Inside.Adding.{AddsTexts};
-ghost use Rattle.gated_journal.specs.Inside.Filling.{AreFilled, Runs, both_calls};
+ghost use Rattle.sector_disk.specs.Filling.{Runs};
+ghost use Rattle.gated_journal.specs.Inside.Filling.{AreFilled, IsPadded, both_calls};
 ghost use Rattle.gated_journal.specs.Record.{data_size};
 
 use crate::Place;
@@ -11,12 +12,14 @@ use crate::place::{fill, sectors_for};
 use sector_disk::{Disk, DiskError};
 use std::alloc::Allocator;
 
-// The first `sectors` sectors of a text, and the sector `at` of the disk where they are to be written.
+// The first `sectors` sectors of a text, and the sector `at` of the disk where they are to be written. `padded` is the text with
+// zeros after it.
 #[derive(Drop)]
 struct Run<'a> {
     at: u64,
     sectors: u64,
     text: &'a [u8],
+    padded: &'a [u8],
 }
 
 // Writes two runs of sectors, one after the other, and syncs them.
@@ -27,13 +30,15 @@ fn settle_both<D: Disk>(disk: &mut D, first: &Run<'_>, second: &Run<'_>) -> Resu
     requires other_fits { second.now.at + second.now.sectors < 2 ^ 64 }
     requires small { first.now.sectors < 2 ^ 32 }
     requires other_small { second.now.sectors < 2 ^ 32 }
+    requires padded { IsPadded first.now.text.now first.now.padded.now }
+    requires other_padded { IsPadded second.now.text.now second.now.padded.now }
     requires apart { (first.now.at + first.now.sectors ≤ second.now.at) ⊎ (second.now.at + second.now.sectors ≤ first.now.at) }
     ensures effect { (D.view disk.old).honest → AreFilled (D.view disk.old) (D.view disk.new) first.now second.now result }
     ensures durable { (D.view disk.old).honest → OnOk result ((k : ℕ) → (D.view disk.new).pending k ≡ false) }
     ensures runs { Runs (D.view disk.old) (D.view disk.new) (both_calls first.now second.now) result }
 {
-    fill(disk, first.at, first.sectors, first.text)?;
-    fill(disk, second.at, second.sectors, second.text)?;
+    fill(disk, first.at, first.sectors, first.text, first.padded)?;
+    fill(disk, second.at, second.sectors, second.text, second.padded)?;
     disk.sync()
 }
 
@@ -44,7 +49,9 @@ pub(crate) fn append_texts<A: Allocator, D: Disk>(
     place: &mut Place,
     other: &mut Place,
     text: &[u8],
+    padded: &[u8],
     other_text: &[u8],
+    other_padded: &[u8],
 ) -> Result<(), DiskError>
     requires within { (place.old.end ≤ (D.view disk.old).sectors) × (other.old.end ≤ (D.view disk.old).sectors) }
     requires apart { (place.old.end ≤ other.old.first) ⊎ (other.old.end ≤ place.old.first) }
@@ -52,6 +59,8 @@ pub(crate) fn append_texts<A: Allocator, D: Disk>(
     requires other_up { other.old.first ≤ other.old.next }
     requires small { length text.now < 2 ^ 32 }
     requires other_small { length other_text.now < 2 ^ 32 }
+    requires padded { IsPadded text.now padded.now }
+    requires other_padded { IsPadded other_text.now other_padded.now }
     requires fits { place.old.next + data_size text.now + 2 ≤ place.old.end }
     requires other_fits { other.old.next + data_size other_text.now + 2 ≤ other.old.end }
 
@@ -70,11 +79,13 @@ pub(crate) fn append_texts<A: Allocator, D: Disk>(
             at: place.next + 1,
             sectors: size + 1,
             text,
+            padded,
         },
         &Run {
             at: other.next + 1,
             sectors: other_size + 1,
             text: other_text,
+            padded: other_padded,
         },
     )?;
     settle_both(
@@ -83,11 +94,13 @@ pub(crate) fn append_texts<A: Allocator, D: Disk>(
             at: place.next,
             sectors: 1,
             text: &[1],
+            padded: &[1],
         },
         &Run {
             at: other.next,
             sectors: 1,
             text: &[1],
+            padded: &[1],
         },
     )?;
     place.next += size + 1;

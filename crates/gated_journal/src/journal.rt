@@ -1,6 +1,6 @@
 // A journal: a place on a disk, and a buffer for the records' bytes.
 ghost use Rattle.std.specs.Prelude.{◌≡◌, ◌⊎◌, ◌<◌, ◌≤◌, ◌+◌, ◌*◌, ◌^◌, ◌-◌, ℕ, ◌++◌, Err, IfErr, IfOk, IsErr, IsErrOf, IfSome, OnErr, OnOk};
-ghost use Rattle.std.specs.Prelude.{length, nat_le};
+ghost use Rattle.std.specs.Prelude.{length, nat_le, take};
 ghost use Rattle.std.specs.List.{All, flat_map};
 ghost use Rattle.centre_core.specs.State.{last_number};
 ghost use Rattle.command_bytes.specs.Fields.{big};
@@ -11,7 +11,8 @@ ghost use Rattle.gated_journal.specs.declared.form.Form.{Form};
 ghost use Rattle.gated_journal.specs.declared.place.Place.{Place};
 ghost use Rattle.gated_journal.specs.Adding.{AddsOne, AddsToBoth, IsOfAppend};
 ghost use Rattle.gated_journal.specs.Inside.Next.{IsCountOfNext, IsNext};
-ghost use Rattle.gated_journal.specs.Inside.Room.{capacity};
+ghost use Rattle.gated_journal.specs.Inside.Filling.{IsPadded};
+ghost use Rattle.gated_journal.specs.Inside.Room.{capacity, text_room};
 ghost use Rattle.gated_journal.specs.Reading.{Answers, AreJudged, Continues, HasCalledTimes, HasRecordIn, IsOfJudging, IsOfReading, IsUnreadOrWhole, MovesOn};
 ghost use Rattle.gated_journal.specs.Reading.{IsReadOnce, entries_view, half_view, next_view};
 ghost use Rattle.gated_journal.specs.Record.{data_size, first_text, given, most_commands, most_sectors, record_text};
@@ -28,6 +29,9 @@ use sector_disk::Disk;
 use std::alloc::{AllocError, Allocator};
 use std::marker::Model;
 
+// How many bytes the greatest record's sectors and the gate after them take.
+const TEXT_ROOM: usize = 512 * (MOST_SECTORS as usize + 1);
+
 /// Adds records to a half of a disk, and reads those that are there.
 #[derive(Debug, Drop)]
 pub struct Journal<A: Allocator> {
@@ -40,8 +44,8 @@ impl<A: Allocator> Model for Journal<A> {
 
     ghost view = { λ journal. journal.place };
 
-    // the buffer has room for the greatest record, and the next gate is not before the half
-    ghost invariant = { λ journal. (512 * most_sectors ≤ capacity journal.text) × (journal.place.first ≤ journal.place.next) };
+    // the buffer has room for the greatest record and the gate after it, and the next gate is not before the half
+    ghost invariant = { λ journal. (text_room ≤ capacity journal.text) × (journal.place.first ≤ journal.place.next) };
 }
 
 impl<A: Allocator + Copy> Journal<A> {
@@ -59,7 +63,7 @@ impl<A: Allocator + Copy> Journal<A> {
         requires fits { first + sectors < 2 ^ 64 }
         ensures { IfOk result (λ journal. journal ≡ record { first = first; end = first + sectors; next = first; form = form; count = before }) }
     {
-        let text = RecordText::with_room(alloc, MOST_SECTORS as usize * 512)?;
+        let text = RecordText::with_room(alloc, TEXT_ROOM)?;
         let place = Place {
             first,
             end: first + sectors,
@@ -144,8 +148,10 @@ impl<A: Allocator> Journal<A> {
         ensures no_room { room_of self.old < data_size (text_at A self.old commands.now)
             → (result ≡ Err JournalError.JournalFull) × (disk.new ≡ disk.old) }
     {
-        put_record(&mut self.text, &self.place, commands);
-        self.place.append_text::<A, D>(disk, self.text.as_slice())?;
+        let len = put_padded(&mut self.text, &self.place, commands);
+        let padded = self.text.as_slice();
+        self.place
+            .append_text::<A, D>(disk, &padded[..len], padded)?;
         self.place.count += commands.len() as u64;
         Ok(())
     }
@@ -180,14 +186,18 @@ impl<A: Allocator> Journal<A> {
         // It fails only where the device has failed.
         ensures kinds { IfErr result (λ e. e ≡ JournalError.DiskFault) }
     {
-        put_record(&mut self.text, &self.place, commands);
-        put_record(&mut other.text, &other.place, commands);
+        let len = put_padded(&mut self.text, &self.place, commands);
+        let other_len = put_padded(&mut other.text, &other.place, commands);
+        let padded = self.text.as_slice();
+        let other_padded = other.text.as_slice();
         append_texts::<A, D>(
             disk,
             &mut self.place,
             &mut other.place,
-            self.text.as_slice(),
-            other.text.as_slice(),
+            &padded[..len],
+            padded,
+            &other_padded[..other_len],
+            other_padded,
         )?;
         self.place.count += commands.len() as u64;
         other.place.count += commands.len() as u64;
@@ -285,7 +295,7 @@ impl<A: Allocator + Copy> Journal<A> {
         ensures reads { OnlyReads (D.view disk.old) (D.view disk.new) (IsErrOf result JournalError.DiskFault) }
         ensures kinds { IfErr result (IsOfReading place.end) }
     {
-        let mut text = RecordText::with_room(alloc, MOST_SECTORS as usize * 512)?;
+        let mut text = RecordText::with_room(alloc, TEXT_ROOM)?;
         let (place, entries) = read_or_judge(alloc, disk, &place, &mut text)?;
         Ok((Journal { place, text }, entries))
     }
@@ -342,9 +352,28 @@ fn put_record<A: Allocator, B: Allocator>(
     requires next { IsCountOfNext place.now (length commands.now) }
     ensures items { out.new.items ≡ text_at A place.now commands.now }
     ensures next { IsNext place.now (given A commands.now) out.new.items }
-    ensures capacity { 512 * most_sectors ≤ capacity out.new }
+    ensures capacity { capacity out.old ≤ capacity out.new }
 {
     let first = place.form.first_of(place.count);
     put_head(out, commands.len() as u16, first, size_of(commands) as u32);
     add_all(out, commands);
+}
+
+// Puts the text of the next record of a place into a buffer with room for it, with zeros after it to the end of the sector after
+// the text's last one. Returns how many bytes the text has.
+fn put_padded<A: Allocator, B: Allocator>(
+    out: &mut RecordText<A>,
+    place: &Place,
+    commands: &[&Command<B>],
+) -> usize
+    requires room { text_room ≤ capacity out.old }
+    requires next { IsCountOfNext place.now (length commands.now) }
+    ensures items { take result out.new.items ≡ text_at A place.now commands.now }
+    ensures next { IsNext place.now (given A commands.now) (take result out.new.items) }
+    ensures padded { IsPadded (take result out.new.items) out.new.items }
+    ensures len { result ≤ length out.new.items }
+    ensures capacity { capacity out.old ≤ capacity out.new }
+{
+    put_record(out, place, commands);
+    out.pad()
 }

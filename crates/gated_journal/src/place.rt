@@ -2,12 +2,12 @@
 ghost use Rattle.std.specs.Prelude.{◌≡◌, ◌+◌, ◌-◌, ◌*◌, ◌<◌, ◌≤◌, ◌^◌, ℕ, ◌++◌, Err, IfErr, drop, length, replicate, false, IsErrOf, OnOk, OnErr};
 ghost use Rattle.sector_disk.specs.Effects.{KeepsDisk};
 ghost use Rattle.sector_disk.specs.Run.{writes};
-ghost use Rattle.sector_disk.specs.Filling.{HasFilled};
+ghost use Rattle.sector_disk.specs.Filling.{HasFilled, Runs};
 ghost use Rattle.gated_journal.specs.declared.fault.JournalError.TheVariants.{DiskFault, JournalFull};
 ghost use Rattle.gated_journal.specs.Adding.{IsOfAppend};
 ghost use Rattle.gated_journal.specs.Calls.{settled_calls};
 ghost use Rattle.gated_journal.specs.Inside.Adding.{AddsText};
-ghost use Rattle.gated_journal.specs.Inside.Filling.{Runs};
+ghost use Rattle.gated_journal.specs.Inside.Filling.{IsPadded};
 ghost use Rattle.gated_journal.specs.Record.{data_sector, data_size, sectors_for};
 ghost use Rattle.gated_journal.specs.Settled.{room_of};
 
@@ -38,16 +38,19 @@ impl Place {
         self.end.saturating_sub(self.next).saturating_sub(2)
     }
 
-    // Adds a record with this text, whose commands are under the allocator A. The caller adds them to `count`.
+    // Adds a record with this text, whose commands are under the allocator A. The caller adds them to `count`. The padded text
+    // is written by one call of the disk if it ends with the sector of the next gate.
     pub(crate) fn append_text<A: Allocator, D: Disk>(
         &mut self,
         disk: &mut D,
         text: &[u8],
+        padded: &[u8],
     ) -> Result<(), JournalError>
         requires end { self.old.end ≤ (D.view disk.old).sectors }
         requires up { self.old.first ≤ self.old.next }
         requires some { 0 < length text.now }
         requires small { length text.now < 2 ^ 32 }
+        requires padded { IsPadded text.now padded.now }
 
         // A stop leaves the records with the new one or without it. At `Ok` a stop after the call leaves the new one too.
         ensures adds { AddsText A (D.view disk.old) (D.view disk.new) self.old self.new text.now result }
@@ -64,8 +67,8 @@ impl Place {
             return Err(JournalError::JournalFull);
         }
         // The text and the gate after it, closed. Then the record's gate, open.
-        settle(disk, self.next + 1, size + 1, text)?;
-        settle(disk, self.next, 1, &[1])?;
+        settle(disk, self.next + 1, size + 1, text, padded)?;
+        settle(disk, self.next, 1, &[1], &[1])?;
         self.next += size + 1;
         Ok(())
     }
@@ -106,14 +109,24 @@ fn sector_of(text: &[u8], k: usize) -> [u8; 512]
     padded(&text[begin..end])
 }
 
-// Writes the first n sectors of a text from the disk's sector `at` on.
-pub(crate) fn fill<D: Disk>(disk: &mut D, at: u64, n: u64, text: &[u8]) -> Result<(), DiskError>
+// Writes the first n sectors of a text from the disk's sector `at` on: by one call if these are all the padded bytes.
+pub(crate) fn fill<D: Disk>(
+    disk: &mut D,
+    at: u64,
+    n: u64,
+    text: &[u8],
+    padded: &[u8],
+) -> Result<(), DiskError>
     requires room { at + n ≤ (D.view disk.old).sectors }
     requires fits { at + n < 2 ^ 64 }
     requires small { n < 2 ^ 32 }
+    requires padded { IsPadded text.now padded.now }
     ensures effect { (D.view disk.old).honest → HasFilled (D.view disk.old) (D.view disk.new) at n (data_sector text.now) result }
     ensures runs { Runs (D.view disk.old) (D.view disk.new) (writes at n (data_sector text.now)) result }
 {
+    if padded.len() as u64 == 512 * n {
+        return disk.write_run(at, padded);
+    }
     for k in 0..n {
         disk.write(at + k, &sector_of(text, k as usize))?;
     }
@@ -121,14 +134,21 @@ pub(crate) fn fill<D: Disk>(disk: &mut D, at: u64, n: u64, text: &[u8]) -> Resul
 }
 
 // Writes the first n sectors of a text from the disk's sector `at` on, and syncs them.
-fn settle<D: Disk>(disk: &mut D, at: u64, n: u64, text: &[u8]) -> Result<(), DiskError>
+fn settle<D: Disk>(
+    disk: &mut D,
+    at: u64,
+    n: u64,
+    text: &[u8],
+    padded: &[u8],
+) -> Result<(), DiskError>
     requires room { at + n ≤ (D.view disk.old).sectors }
     requires fits { at + n < 2 ^ 64 }
     requires small { n < 2 ^ 32 }
+    requires padded { IsPadded text.now padded.now }
     ensures effect { (D.view disk.old).honest → HasFilled (D.view disk.old) (D.view disk.new) at n (data_sector text.now) result }
     ensures durable { (D.view disk.old).honest → OnOk result ((k : ℕ) → (D.view disk.new).pending k ≡ false) }
     ensures runs { Runs (D.view disk.old) (D.view disk.new) (settled_calls at n text.now) result }
 {
-    fill(disk, at, n, text)?;
+    fill(disk, at, n, text, padded)?;
     disk.sync()
 }

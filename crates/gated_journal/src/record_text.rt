@@ -1,8 +1,9 @@
 // The buffer of a record's text.
-ghost use Rattle.std.specs.Prelude.{◌≡◌, ◌≤◌, ◌+◌, ◌++◌, [], IfOk, length};
+ghost use Rattle.std.specs.Prelude.{◌≡◌, ◌≤◌, ◌+◌, ◌-◌, ◌*◌, ◌++◌, [], IfOk, length, replicate};
 ghost use Rattle.bytes.specs.Filled.{Filled};
 ghost use Rattle.command_bytes.specs.Text.{IsCommand, command_text};
-ghost use Rattle.gated_journal.specs.Inside.Room.{capacity};
+ghost use Rattle.gated_journal.specs.Inside.Room.{capacity, text_room};
+ghost use Rattle.gated_journal.specs.Record.{data_size, most_sectors};
 
 use bytes::BytesMut;
 use centre_core::Command;
@@ -62,6 +63,21 @@ impl<A: Allocator> RecordText<A> {
         ensures capacity { capacity self.old ≤ capacity self.new }
     {
         self.bytes.extend_reserved(bytes);
+    }
+
+    // Adds zeros to the end of the text's last sector, and for one sector more. Returns how many bytes the text has.
+    pub(crate) fn pad(&mut self) -> usize
+        requires few { length self.old.items ≤ 512 * most_sectors }
+        requires room { text_room ≤ capacity self.old }
+        ensures len { result ≡ length self.old.items }
+        ensures items { self.new.items ≡ self.old.items ++ replicate (512 * (data_size self.old.items + 1) - length self.old.items) 0 }
+        ensures capacity { capacity self.old ≤ capacity self.new }
+    {
+        let len = self.bytes.as_slice().len();
+        let end = 512 * ((len + 511) / 512 + 1);
+        let zeros = [0u8; 1024];
+        self.add(&zeros[..end - len]);
+        len
     }
 
     // Adds a command's bytes, for which there is room.

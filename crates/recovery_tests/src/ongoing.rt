@@ -532,7 +532,7 @@ fn ended_in(alloc: Global, size: usize) -> Option<bool> {
 }
 
 /// In how many heaps of rising size none could begin, up to the first in which one ended. The journals of both halves have a buffer
-/// of 18,432 bytes each.
+/// of 18,944 bytes each.
 fn refused(alloc: Global) -> Option<usize> {
     for k in 0..400 {
         match ended_in(alloc, 36_800 + 16 * k) {

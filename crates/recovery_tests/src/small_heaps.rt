@@ -183,7 +183,7 @@ fn register_in(alloc: Global, size: usize) -> Option<u64> {
 }
 
 /// How often so many commands were accepted, in heaps of rising size up to the first that lets all four be; nothing
-/// where one of them answered something else. A journal has a buffer of 18,432 bytes.
+/// where one of them answered something else. A journal has a buffer of 18,944 bytes.
 fn register_sizes(alloc: Global) -> Option<[u64; 4]> {
     let mut often = [0; 4];
     for k in 0..400 {

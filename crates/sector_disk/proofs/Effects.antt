@@ -1,6 +1,9 @@
 -- Calls of a disk, one after another.
-use Rattle.std.proofs.Common.{◌∙◌, arith, inl, inr, ⊎_elim}
-use Rattle.sector_disk.specs.Disk.{View}
+use Rattle.std.proofs.Common.{◌∙◌, Result, Ok, Err, refl, arith, inl, inr, ⊎_elim}
+use Rattle.std.specs.Result.{IsErr, IsErrOf}
+use Rattle.sector_disk.specs.Disk.{HasCause, HasFailed, View}
+use Rattle.sector_disk.specs.declared.disk.DiskError.{DiskError}
+use Rattle.sector_disk.specs.declared.disk.DiskError.TheVariants.{DiskFault, OutOfRange}
 use Rattle.sector_disk.proofs.OnlyRead.{only_read_on}
 use Rattle.sector_disk.specs.Effects.{KeepsDisk, OnlyReads}
 
@@ -27,4 +30,19 @@ reads_keep old new reads = record {
   sectors = reads.sectors;
   later = reads.later;
   honest = λ is_honest. (reads.only_read is_honest).honest;
+}
+
+pub has_failed : {T : Type 0} (old new : View) (result : Result T DiskError) → IsErr result → HasCause old new result → (IsErrOf result OutOfRange → ⊥) → HasFailed old new
+has_failed old new (Ok x) failed cause in_range = absurd cc
+has_failed old new (Err DiskFault) failed cause in_range = cause.fault refl
+has_failed old new (Err OutOfRange) failed cause in_range = absurd (in_range refl)
+
+-- one call
+pub keeps_one : {T : Type 0} (old new : View) (result : Result T DiskError) → HasCause old new result → (IsErrOf result OutOfRange → ⊥) → (old.honest → new.honest)
+    → KeepsDisk old new (IsErr result)
+keeps_one old new result cause in_range honest = record {
+  fault = λ failed. has_failed old new result failed cause in_range;
+  sectors = cause.sectors;
+  later = cause.later;
+  honest = honest;
 }

@@ -71,3 +71,20 @@ fill_wider old new at k n bytes first result err le filled = record {
     narrow : (j : ℕ) → (j < at) ⊎ (at + n ≤ j) → (j < at) ⊎ (at + k ≤ j)
     narrow j (inl below) = inl below
     narrow j (inr above) = inr (omega (arith, le, above))
+
+-- the same bytes, given in another way
+pub filled_as : (old new : View) (at n : ℕ) (bytes same : ℕ → List ℕ) (result : Result Unit DiskError) → ((k : ℕ) → k < n → bytes k ≡ same k)
+    → HasFilled old new at n bytes result → HasFilled old new at n same result
+filled_as old new at n bytes same result are filled = record {
+  honest = filled.honest;
+  crash = filled.crash;
+  now = filled.now;
+  count = filled.count;
+  others = filled.others;
+  written = written result filled.written;
+}
+  where
+    written : (outcome : Result Unit DiskError) → OnOk outcome ((k : ℕ) → k < n → sector new.reads (at + k) ≡ bytes k) →
+        OnOk outcome ((k : ℕ) → k < n → sector new.reads (at + k) ≡ same k)
+    written (Ok u) there = λ k lt. there k lt ∙ are k lt
+    written (Err e) none = tt

@@ -54,6 +54,14 @@ pub one_write_more : (at k : ℕ) (bytes : ℕ → List ℕ) (one : List ℕ) �
 unfolding writes
 one_write_more at k bytes one is = let next : k + 1 ≡ suc k = omega arith in rw (next, is) refl
 
+-- the same bytes, given in another way
+pub writes_as : (at n : ℕ) (bytes same : ℕ → List ℕ) → ((k : ℕ) → k < n → bytes k ≡ same k) → writes at n bytes ≡ writes at n same
+unfolding writes
+writes_as at zero bytes same are = refl
+writes_as at (suc n) bytes same are =
+    let before : writes at n bytes ≡ writes at n same = writes_as at n bytes same (λ k lt. are k (omega (arith, lt))) in
+    rw (before, are n (omega arith)) refl
+
 -- it has answered `Ok`
 pub one_made : (old mid new : List Call) (at k : ℕ) (bytes : ℕ → List ℕ) (one : List ℕ) → one ≡ bytes k → mid ≡ old ++ writes at k bytes →
     new ≡ mid ++ Write (at + k) one ∷ [] → new ≡ old ++ writes at (k + 1) bytes
@@ -85,3 +93,7 @@ write_made old mid new at k n bytes one result lt is were called =
     ap (λ (some : List Call). some ++ rest.left) (sym (one_write_more at k bytes one is)) ∙
     append_assoc (writes at k bytes) (Write (at + k) one ∷ []) rest.left in
     rw all (made_on old mid new (writes at k bytes) rest.left (Write (at + k) one) result were called)
+
+-- all of them were made
+pub whole_made : (old new : View) (calls : List Call) → new.calls ≡ old.calls ++ calls → HasMade old new calls
+whole_made old new calls is = record { made = calls; left = []; prefix = sym (append-nil calls); now = is }

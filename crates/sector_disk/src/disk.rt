@@ -1,9 +1,12 @@
 // A disk as its users see it.
-ghost use Rattle.std.specs.Prelude.{◌≡◌, ◌<◌, ◌≤◌, ℕ, Err, IsErrOf};
+ghost use Rattle.std.specs.Prelude.{◌≡◌, ◌<◌, ◌≤◌, ◌+◌, ◌*◌, ◌^◌, ℕ, Err, IsErrOf, length};
 ghost use Rattle.sector_disk.specs.Disk.{View, IsSound, HasRead, HasWritten, HasSynced, HasCause, IsCalled};
+ghost use Rattle.sector_disk.specs.Filling.{HasFilled, Runs, part_of, sectors_in};
+ghost use Rattle.sector_disk.specs.Run.{writes};
 ghost use Rattle.sector_disk.specs.declared.record.Call.TheVariants.{Read, Sync, Write};
 ghost use Rattle.sector_disk.specs.declared.disk.DiskError.TheVariants.{OutOfRange};
 
+use crate::sector_in;
 use thiserror::Error;
 
 /// Why a call of a disk is refused.
@@ -51,6 +54,23 @@ pub trait Disk {
         ensures out_of_range { (view self.old).sectors ≤ at
             → (result ≡ Err OutOfRange) × (self.new ≡ self.old) }
         ensures in_range { IsErrOf result OutOfRange → (view self.old).sectors ≤ at };
+
+    /// Writes a run of sectors, one after another, from the sector `at` on. Until the next sync that succeeds, a stop may leave any
+    /// bytes in them.
+    ///
+    /// After a `DiskFault` they may read as anything.
+    fn write_run(&mut self, at: u64, bytes: &[u8]) -> Result<(), DiskError>
+        requires whole { length bytes.now ≡ 512 * sectors_in bytes.now }
+        requires room { at + sectors_in bytes.now ≤ (view self.old).sectors }
+        requires fits { at + sectors_in bytes.now < 2 ^ 64 }
+        ensures effect { (view self.old).honest → HasFilled (view self.old) (view self.new) at (sectors_in bytes.now) (part_of bytes.now) result }
+        ensures runs { Runs (view self.old) (view self.new) (writes at (sectors_in bytes.now) (part_of bytes.now)) result }
+    {
+        for k in 0..bytes.len() / 512 {
+            self.write(at + k as u64, sector_in(bytes, k))?;
+        }
+        Ok(())
+    }
 
     /// Makes what was written durable. Once it has answered `Ok`, a stop leaves what a read gives.
     ///

@@ -5,8 +5,10 @@
 mod disk;
 mod failing;
 mod memory;
+mod part;
 mod record;
 
 pub use disk::{Disk, DiskError};
 pub use failing::{Failing, FailingDisk};
 pub use memory::MemoryDisk;
+pub use part::sector_in;

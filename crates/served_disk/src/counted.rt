@@ -116,6 +116,10 @@ impl<'t, 'r, D: Disk, C: Clock + Eprint> Disk for CountedDisk<'t, 'r, D, C> {
         self.disk.write(at, bytes)
     }
 
+    fn write_run(&mut self, at: u64, bytes: &[u8]) -> Result<(), DiskError> {
+        self.disk.write_run(at, bytes)
+    }
+
     fn sync(&mut self) -> Result<(), DiskError> {
         self.disk.sync()
     }
@@ -165,6 +169,10 @@ impl<'s, D: Disk> Disk for SyncedDisk<'s, D> {
 
     fn write(&mut self, at: u64, bytes: &[u8; 512]) -> Result<(), DiskError> {
         self.disk.write(at, bytes)
+    }
+
+    fn write_run(&mut self, at: u64, bytes: &[u8]) -> Result<(), DiskError> {
+        self.disk.write_run(at, bytes)
     }
 
     fn sync(&mut self) -> Result<(), DiskError> {

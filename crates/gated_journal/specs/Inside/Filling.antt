@@ -1,11 +1,9 @@
 -- What a stop leaves of two runs of writes.
-use Rattle.std.specs.Prelude.{◌≡◌, ◌⊎◌, ℕ, ◌<◌, ◌≤◌, ◌+◌, List, length, IsErr, IsErrOf, OnOk, Result}
+use Rattle.std.specs.Prelude.{◌≡◌, ◌⊎◌, ℕ, ◌<◌, ◌≤◌, ◌+◌, List, length, OnOk, Result}
 use Rattle.sector_disk.specs.Numbers.{Byte, Sector, Sectors}
 use Rattle.sector_disk.specs.Disk.{View, IsImageOf, sector}
-use Rattle.sector_disk.specs.Effects.{KeepsDisk}
-use Rattle.sector_disk.specs.Run.{HasCalled, HasMade, LeavesOnly}
+use Rattle.sector_disk.specs.Run.{LeavesOnly}
 use Rattle.sector_disk.specs.declared.disk.DiskError.{DiskError}
-use Rattle.sector_disk.specs.declared.disk.DiskError.TheVariants.{OutOfRange}
 use Rattle.sector_disk.specs.declared.record.Call.{Call}
 use Rattle.gated_journal.specs.Calls.{settled_both_calls}
 use Rattle.gated_journal.specs.Record.{data_sector}
@@ -24,13 +22,9 @@ pub record HasFilledTwice (old new : View) (at : Sector) (n : Sectors) (bytes : 
   pub written : OnOk result ((k : ℕ) → k < n → sector new.reads (at + k) ≡ bytes k)
   pub also : OnOk result ((k : ℕ) → k < m → sector new.reads (to + k) ≡ more k)
 
--- At `Ok` the disk has had all of these calls, and after an error a prefix of them. The error is never `OutOfRange`, and comes
--- only where the device has failed.
-pub record Runs (old new : View) (made : List Call) (result : Result Unit DiskError) : Type 0 where
-  pub calls : OnOk result (HasCalled old new made)
-  pub some_calls : HasMade old new made
-  pub keeps : KeepsDisk old new (IsErr result)
-  pub in_range : IsErrOf result OutOfRange → ⊥
+-- `padded` is the text, with zeros after it: it has the same sectors.
+abbrev pub IsPadded : List Byte → List Byte → Type 0
+IsPadded text padded = (k : ℕ) → data_sector padded k ≡ data_sector text k
 
 -- The runs x and y are written, x first, and do to the disk what `HasFilledTwice` states. A run writes the first `sectors` sectors
 -- of its text, from the disk's sector `at` on.

@@ -1,7 +1,8 @@
 use Rattle.std.proofs.Common.{◌≡◌, ℕ, ◌+◌, ◌*◌, ◌≤◌, ◌∙◌, ap, length, refl, sym, arith}
 use Rattle.std.proofs.lemmas.List.{length-replicate}
 use Rattle.sector_disk.specs.Disk.{View}
-use Rattle.file_disk.proofs.Blank.{piece_done, piece_failed, zeros_again}
+use Rattle.file_disk.proofs.Blank.{piece_done, piece_failed}
+use Rattle.file_disk.proofs.Runs.{again}
 use Rattle.file_disk.proofs.zeros.fill_piece.Goals as goal
 
 pub returns-in_err-written-clause-effect : goal.returns-in_err-written-clause-effect
@@ -23,4 +24,4 @@ returns-clause-effect g c within honest =
     let long : length c.args.zeros.now ≡ 512 * 128 = ap length c.requires.zeros ∙ length-replicate {A = ℕ} 65536 0 in
     let left = c.write_at.ensures.sectors c.args.at 128 refl (omega arith) long within honest in
     let still : c.args.at + 128 ≤ mid.sectors = omega (arith, within, c.write_at.ensures.cause.sectors) in
-    zeros_again old mid (g.F.SectorFile.view c.fill_each.new.file) c.args.at 128 _ _ c.fill_each.result left (c.fill_each.ensures.effect still left.honest)
+    again old mid (g.F.SectorFile.view c.fill_each.new.file) c.args.at 128 _ _ _ c.fill_each.result left (c.fill_each.ensures.effect still left.honest)

@@ -1,10 +1,9 @@
 use Rattle.std.proofs.lemmas.Result.{err_from_is_err_and}
 use Rattle.sector_disk.specs.Disk.{View}
-use Rattle.sector_disk.proofs.Effects.{keeps_on}
+use Rattle.sector_disk.proofs.Effects.{keeps_on, keeps_one}
 use Rattle.gated_journal.proofs.FilledTwice.{filled_first, filled_second, so_failed, then_synced_twice}
 use Rattle.gated_journal.specs.Record.{data_sector}
 use Rattle.gated_journal.proofs.BothCalls.{both_settled, in_first, in_second, in_their_sync}
-use Rattle.gated_journal.proofs.Kept.{keeps_one}
 use Rattle.gated_journal.proofs.both.settle_both.Goals as goal
 
 pub returns-in_err-fill-clause-effect : goal.returns-in_err-fill-clause-effect

@@ -1,15 +1,30 @@
-use Rattle.std.proofs.Common.{rules, ◌≡◌, ◌+◌, ◌<◌, ◌++◌, ◌∙◌, Err, arith, refl}
+use Rattle.std.proofs.Common.{rules, ◌≡◌, ◌+◌, ◌<◌, ◌++◌, ◌∙◌, List, Err, ap, subst, arith, refl}
 use Rattle.std.proofs.lemmas.Result.{err_from_is_err_and}
 use Rattle.sector_disk.specs.Disk.{View}
 use Rattle.sector_disk.specs.Effects.{KeepsDisk}
+use Rattle.sector_disk.specs.Filling.{Runs, part_of, sectors_in}
 use Rattle.sector_disk.specs.Run.{writes}
-use Rattle.sector_disk.proofs.Effects.{keeps_on}
-use Rattle.sector_disk.proofs.Filled.{fill_more, fill_none, fill_wider}
-use Rattle.sector_disk.proofs.Made.{no_write_yet, one_made, write_made}
+use Rattle.sector_disk.specs.declared.record.Call.{Call}
+use Rattle.sector_disk.proofs.Effects.{keeps_on, keeps_one}
+use Rattle.sector_disk.proofs.Filled.{fill_more, fill_none, fill_wider, filled_as}
+use Rattle.sector_disk.proofs.Made.{no_write_yet, one_made, whole_made, write_made, writes_as}
 use Rattle.gated_journal.specs.Record.{data_sector}
-use Rattle.gated_journal.proofs.Kept.{keeps_one}
-use Rattle.gated_journal.proofs.Called.{whole_made}
+use Rattle.gated_journal.proofs.Cut.{run_of}
 use Rattle.gated_journal.proofs.place.fill.Goals as goal
+
+pub returns-then-padded-n-clause-effect : goal.returns-then-padded-n-clause-effect
+returns-then-padded-n-clause-effect g c honest =
+    let count : sectors_in c.args.padded.now ≡ c.args.n = omega (arith, c.if-padded-n.true) in
+    filled_as (g.D.Disk.view c.args.disk.now) (g.D.Disk.view c.write_run.new.self) c.args.at c.args.n (part_of c.args.padded.now) (data_sector c.args.text.now)
+    c.write_run.result (run_of c.args.text.now c.args.padded.now c.args.n c.if-padded-n.true c.requires.padded) (rw count at (c.write_run.ensures.effect honest))
+
+pub returns-then-padded-n-clause-runs : goal.returns-then-padded-n-clause-runs
+returns-then-padded-n-clause-runs g c =
+    let count : sectors_in c.args.padded.now ≡ c.args.n = omega (arith, c.if-padded-n.true) in
+    let calls : writes c.args.at (sectors_in c.args.padded.now) (part_of c.args.padded.now) ≡ writes c.args.at c.args.n (data_sector c.args.text.now) =
+    ap (λ m. writes c.args.at m (part_of c.args.padded.now)) count ∙
+    writes_as c.args.at c.args.n _ _ (run_of c.args.text.now c.args.padded.now c.args.n c.if-padded-n.true c.requires.padded) in
+    subst (λ (made : List Call). Runs (g.D.Disk.view c.args.disk.now) (g.D.Disk.view c.write_run.new.self) made c.write_run.result) calls c.write_run.ensures.runs
 
 pub loop-k-init : goal.loop-k-init
 loop-k-init g c = record {

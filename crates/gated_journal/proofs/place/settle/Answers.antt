@@ -1,14 +1,13 @@
 use Rattle.std.proofs.Common.{[], ◌∷◌}
 use Rattle.std.proofs.lemmas.Result.{err_from_is_err_and}
 use Rattle.sector_disk.specs.Disk.{View}
-use Rattle.sector_disk.proofs.Effects.{keeps_on}
+use Rattle.sector_disk.proofs.Effects.{keeps_on, keeps_one}
 use Rattle.sector_disk.proofs.Made.{made_of_more, made_on}
 use Rattle.sector_disk.specs.Run.{writes}
 use Rattle.sector_disk.specs.declared.record.Call.TheVariants.{Sync}
 use Rattle.gated_journal.specs.Record.{data_sector}
 use Rattle.gated_journal.proofs.Append.{then_synced}
 use Rattle.gated_journal.proofs.Called.{settled_at_end}
-use Rattle.gated_journal.proofs.Kept.{keeps_one}
 use Rattle.gated_journal.proofs.place.settle.Goals as goal
 
 pub returns-clause-effect : goal.returns-clause-effect

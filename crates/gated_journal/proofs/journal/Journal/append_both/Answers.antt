@@ -1,4 +1,4 @@
-use Rattle.std.proofs.Common.{rules, ◌≡◌, ◌≤◌, length, ap, sym, ◌∙◌, arith}
+use Rattle.std.proofs.Common.{rules, ◌≡◌, ◌≤◌, List, ℕ, length, take, ap, sym, ◌∙◌, arith}
 use Rattle.std.proofs.lemmas.Result.{err_from_is_err_and}
 use Rattle.gated_journal.specs.Record.{data_size, given}
 use Rattle.gated_journal.specs.Settled.{room_of, text_at}
@@ -7,35 +7,42 @@ use Rattle.gated_journal.proofs.Written.{next_short}
 use Rattle.gated_journal.proofs.journal.Journal.append_both.Goals as goal
 
 pub append_texts-requires-clause-small : goal.append_texts-requires-clause-small
-append_texts-requires-clause-small g c = let short = next_short _ (given g.row.A.Denot c.args.commands.now) _ c.put_record.ensures.next in omega (arith, ap length c.as_slice.ensures, short.1)
+append_texts-requires-clause-small g c = let short = next_short _ (given g.row.A.Denot c.args.commands.now) _ c.put_padded-len.ensures.next in
+    omega (arith, ap (λ (bytes : List ℕ). length (take c.put_padded-len.result bytes)) c.as_slice-padded.ensures, short.1)
 
 pub append_texts-requires-clause-other_small : goal.append_texts-requires-clause-other_small
-append_texts-requires-clause-other_small g c = let short = next_short _ (given g.row.A.Denot c.args.commands.now) _ c.put_record-2.ensures.next in
-    omega (arith, ap length c.as_slice-2.ensures, short.1)
+append_texts-requires-clause-other_small g c = let short = next_short _ (given g.row.A.Denot c.args.commands.now) _ c.put_padded-other_len.ensures.next in
+    omega (arith, ap (λ (bytes : List ℕ). length (take c.put_padded-other_len.result bytes)) c.as_slice-other_padded.ensures, short.1)
 
 pub append_texts-requires-clause-fits : goal.append_texts-requires-clause-fits
 append_texts-requires-clause-fits g c =
-    let short = next_short _ (given g.row.A.Denot c.args.commands.now) _ c.put_record.ensures.next in
-    let is : c.as_slice.result.now ≡ text_at g.row.A.Denot c.args.self.now c.args.commands.now = rw (← c.self.view_is) (c.as_slice.ensures ∙ c.put_record.ensures.items) in
-    let fit : data_size c.as_slice.result.now ≤ room_of c.args.self.now = rw is c.requires.fits in
-    rw c.self.view_is (omega (arith, ap length c.as_slice.ensures, short.0, fit))
+    let short = next_short _ (given g.row.A.Denot c.args.commands.now) _ c.put_padded-len.ensures.next in
+    let is : take c.put_padded-len.result c.as_slice-padded.result.now ≡ text_at g.row.A.Denot c.args.self.now c.args.commands.now = rw (← c.self.view_is) (ap (λ (bytes : List ℕ). take c.put_padded-len.result bytes) c.as_slice-padded.ensures ∙ c.put_padded-len.ensures.items) in
+    let fit : data_size (take c.put_padded-len.result c.as_slice-padded.result.now) ≤ room_of c.args.self.now = rw is c.requires.fits in
+    rw c.self.view_is (omega (arith, ap (λ (bytes : List ℕ). length (take c.put_padded-len.result bytes)) c.as_slice-padded.ensures, short.0, fit))
 
 pub append_texts-requires-clause-other_fits : goal.append_texts-requires-clause-other_fits
 append_texts-requires-clause-other_fits g c =
-    let short = next_short _ (given g.row.A.Denot c.args.commands.now) _ c.put_record-2.ensures.next in
-    let is : c.as_slice-2.result.now ≡ text_at g.row.A.Denot c.args.other.now c.args.commands.now = rw (← c.other.view_is) (c.as_slice-2.ensures ∙ c.put_record-2.ensures.items) in
-    let fit : data_size c.as_slice-2.result.now ≤ room_of c.args.other.now = rw is c.requires.other_fits in
-    rw c.other.view_is (omega (arith, ap length c.as_slice-2.ensures, short.0, fit))
+    let short = next_short _ (given g.row.A.Denot c.args.commands.now) _ c.put_padded-other_len.ensures.next in
+    let is : take c.put_padded-other_len.result c.as_slice-other_padded.result.now ≡ text_at g.row.A.Denot c.args.other.now c.args.commands.now = rw (← c.other.view_is) (ap (λ (bytes : List ℕ). take c.put_padded-other_len.result bytes) c.as_slice-other_padded.ensures ∙ c.put_padded-other_len.ensures.items) in
+    let fit : data_size (take c.put_padded-other_len.result c.as_slice-other_padded.result.now) ≤ room_of c.args.other.now = rw is c.requires.other_fits in
+    rw c.other.view_is (omega (arith, ap (λ (bytes : List ℕ). length (take c.put_padded-other_len.result bytes)) c.as_slice-other_padded.ensures, short.0, fit))
 
-pub put_record-requires-clause-next : goal.put_record-requires-clause-next
-put_record-requires-clause-next g c = record {
+pub append_texts-requires-clause-padded : goal.append_texts-requires-clause-padded
+append_texts-requires-clause-padded g c = rw c.as_slice-padded.ensures c.put_padded-len.ensures.padded
+
+pub append_texts-requires-clause-other_padded : goal.append_texts-requires-clause-other_padded
+append_texts-requires-clause-other_padded g c = rw c.as_slice-other_padded.ensures c.put_padded-other_len.ensures.padded
+
+pub put_padded-len-requires-clause-next : goal.put_padded-len-requires-clause-next
+put_padded-len-requires-clause-next g c = record {
   some = c.requires.some;
   few = c.requires.few;
   number = rw c.self.view_is (omega (arith, c.requires.some, c.requires.counts));
 }
 
-pub put_record-requires-2-clause-next : goal.put_record-requires-2-clause-next
-put_record-requires-2-clause-next g c = record {
+pub put_padded-other_len-requires-clause-next : goal.put_padded-other_len-requires-clause-next
+put_padded-other_len-requires-clause-next g c = record {
   some = c.requires.some;
   few = c.requires.few;
   number = rw c.other.view_is (omega (arith, c.requires.some, c.requires.other_counts));
@@ -45,11 +52,11 @@ pub returns-in_err-append_texts-clause-adds : goal.returns-in_err-append_texts-c
 returns-in_err-append_texts-clause-adds g c =
     let p = err_from_is_err_and c.from_residual.result c.from_residual.ensures.1 in
     let adds = c.in_err-append_texts.ensures.adds in
-    let text = c.as_slice.ensures ∙ c.put_record.ensures.items in
-    let other_text = c.as_slice-2.ensures ∙ c.put_record-2.ensures.items in
+    let text = ap (λ (bytes : List ℕ). take c.put_padded-len.result bytes) c.as_slice-padded.ensures ∙ c.put_padded-len.ensures.items in
+    let other_text = ap (λ (bytes : List ℕ). take c.put_padded-other_len.result bytes) c.as_slice-other_padded.ensures ∙ c.put_padded-other_len.ensures.items in
     rw (← c.self.view_is, ← c.other.view_is, p.1) (record {
       any_moment = λ before start entries others honest settled also. adds.any_moment before start entries others (given g.row.A.Denot c.args.commands.now)
-          (rw c.as_slice.ensures c.put_record.ensures.next) (rw c.as_slice-2.ensures c.put_record-2.ensures.next) honest settled also;
+          (rw c.as_slice-padded.ensures c.put_padded-len.ensures.next) (rw c.as_slice-other_padded.ensures c.put_padded-other_len.ensures.next) honest settled also;
       acknowledged = tt;
       durable = λ honest. tt;
       elsewhere = λ honest. tt;
@@ -63,13 +70,13 @@ pub returns-clause-adds : goal.returns-clause-adds
 returns-clause-adds g c =
     let count : length c.args.commands.now ≡ length (given g.row.A.Denot c.args.commands.now) = sym (given_count g.row.A.Denot c.args.commands.now) in
     let adds = c.in_ok-append_texts.ensures.adds in
-    let text = c.as_slice.ensures ∙ c.put_record.ensures.items in
-    let other_text = c.as_slice-2.ensures ∙ c.put_record-2.ensures.items in
+    let text = ap (λ (bytes : List ℕ). take c.put_padded-len.result bytes) c.as_slice-padded.ensures ∙ c.put_padded-len.ensures.items in
+    let other_text = ap (λ (bytes : List ℕ). take c.put_padded-other_len.result bytes) c.as_slice-other_padded.ensures ∙ c.put_padded-other_len.ensures.items in
     rw (← c.self.view_is, ← c.other.view_is) (record {
       any_moment = λ before start entries others honest settled also. adds.any_moment before start entries others (given g.row.A.Denot c.args.commands.now)
-          (rw c.as_slice.ensures c.put_record.ensures.next) (rw c.as_slice-2.ensures c.put_record-2.ensures.next) honest settled also;
+          (rw c.as_slice-padded.ensures c.put_padded-len.ensures.next) (rw c.as_slice-other_padded.ensures c.put_padded-other_len.ensures.next) honest settled also;
       acknowledged = rw count (λ before start entries others honest settled also. adds.acknowledged before start entries others (given g.row.A.Denot c.args.commands.now)
-          (rw c.as_slice.ensures c.put_record.ensures.next) (rw c.as_slice-2.ensures c.put_record-2.ensures.next) honest settled also);
+          (rw c.as_slice-padded.ensures c.put_padded-len.ensures.next) (rw c.as_slice-other_padded.ensures c.put_padded-other_len.ensures.next) honest settled also);
       durable = adds.durable;
       elsewhere = adds.elsewhere;
       next = search rules;
