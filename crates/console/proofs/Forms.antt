@@ -1,10 +1,11 @@
 -- Forms, and what words of them say.
 use Rattle.std.proofs.Common.{◌≡◌, ℕ, ◌<◌, Bool, true, false, List, [], ◌∷◌, length, take, Option, Some, None, Result, Ok, Err, refl, sym, ◌∙◌, ap, subst, arith}
-use Rattle.std.specs.Prelude.{◌==◌, IfSome, IsOkAnd, IsTrue, nat_le, nat_lt, if◌then◌else◌}
+use Rattle.std.specs.Prelude.{◌==◌, ◌&&◌, IfSome, IsOkAnd, IsTrue, nat_le, nat_lt, if◌then◌else◌}
 use Rattle.std.proofs.lemmas.Bool.Decides.{nat_tests}
 use Rattle.std.specs.List.{list_all}
 use Rattle.std.specs.Option.{option_map}
 use Rattle.std.specs.Result.{result_ok}
+use Rattle.std.specs.Str.{bytes_eq}
 use Rattle.base.proofs.Bools.{first_true, second_true}
 use Rattle.identity.specs.Path.{Path}
 use Rattle.identity.specs.declared.fault.Fault.{Fault}
@@ -17,14 +18,15 @@ use Rattle.mailbox.specs.declared.key.Key.{Key}
 use Rattle.centre_core.specs.Memory.{is_long}
 use Rattle.centre_core.specs.Ranges.{IsShort, pdu_of}
 use Rattle.centre_core.specs.declared.command.Body.{Body}
-use Rattle.centre_core.specs.declared.command.Body.TheVariants.{RuleSet, RuleClear, Mm, Sds, GroupSds, Sent, Expire, Delete}
+use Rattle.centre_core.specs.declared.command.Body.TheVariants.{RuleClear, Sent, Delete}
 use Rattle.console.specs.declared.body.Head.{Head}
 use Rattle.console.specs.declared.form.Form.{Form}
 use Rattle.console.specs.declared.form.BodyForm.{BodyForm}
 use Rattle.console.specs.declared.form.BodyForm.TheVariants as body_form
 use Rattle.console.specs.declared.line.Line.TheVariants.{Bad, Apply}
 use Rattle.console.specs.declared.line.LineFault.TheVariants.{Syntax}
-use Rattle.console.specs.Forms.{Row, forms, form_in, keyword, word}
+use Rattle.console.specs.Forms.{Row, forms, form_in, form_of, keyword, word}
+use Rattle.console.specs.Inside.Counts.{count_of}
 use Rattle.console.specs.Reading.{identity_in, area_in, prefix_in, key_in, rule_in, pdu_in, mm_body, sds_body, group_sds_body, rule_body, body_in}
 use Rattle.console.specs.Reading.{command_of, line_of, by_form, of_words, sequence_of, GivesLongPdu}
 
@@ -47,6 +49,29 @@ no_row (row ∷ rows) name n many few =
 -- more words than any form has
 pub many_words : {A : Type 0} (station : ℕ) (ws : List (List ℕ)) → 8 < length ws → of_words {A = A} station ws ≡ Bad Syntax
 many_words {A = A} station ws many = ap (λ form. by_form {A = A} station form ws) (no_row forms (keyword ws) (length ws) many refl)
+
+abbrev count_in : Option Form → ℕ
+count_in None = 0
+count_in (Some form) = count_of form
+
+counted_row : (row : Row) (n : ℕ) (form : Form) → (row.count == n) ≡ true → (row.count == count_of row.form) ≡ true → Some row.form ≡ Some form → n ≡ count_of form
+counted_row row n form here fits same =
+    let count : row.count ≡ n = grind (arith, nat_tests, here) in
+    let its : row.count ≡ count_of row.form = grind (arith, nat_tests, fits) in
+    sym count ∙ its ∙ ap count_in same
+
+counted_in : (rows : List Row) (name : List ℕ) (n : ℕ) (form : Form) → list_all (λ row. row.count == count_of row.form) rows ≡ true → form_in rows name n ≡ Some form → n ≡ count_of form
+counted_in [] name n form fit is = cc
+counted_in (row ∷ rows) name n form fit is =
+    let fits = first_true (row.count == count_of row.form) (list_all (λ row. row.count == count_of row.form) rows) fit in
+    let others = second_true (row.count == count_of row.form) (list_all (λ row. row.count == count_of row.form) rows) fit in
+    chain (λ found. found ≡ Some form → n ≡ count_of form) ((row.count == n) && bytes_eq name row.keyword) row.form (form_in rows name n)
+    (λ here same. counted_row row n form (first_true (row.count == n) (bytes_eq name row.keyword) here) fits same)
+    (counted_in rows name n form others) is
+
+-- words that have a form are as many as it has
+pub counted : (name : List ℕ) (n : ℕ) (form : Form) → form_of name n ≡ Some form → n ≡ count_of form
+counted name n form is = counted_in forms name n form refl is
 
 -- ---- PDUs of at most 2,048 bits
 

@@ -3,6 +3,7 @@ pub mod Current
 pub mod Given
 pub mod Marks
 pub mod Left
+pub mod Counts
 pub mod Together
 pub mod EventCode
 pub mod Noted

@@ -7,6 +7,7 @@ ghost use Rattle.console.specs.declared.form.BodyForm.TheVariants.{RuleSet, Rule
 ghost use Rattle.console.specs.Forms.{word};
 ghost use Rattle.console.specs.Reading.{head_in, query_in, listing_in, body_in, GivesLongPdu};
 ghost use Rattle.console.specs.Reading.{seconds_in, sequence_in, station_in, area_in, lifetime_in, rule_in, reference_in, kind_in, key_in};
+ghost use Rattle.console.specs.Inside.Counts.{command_count, query_count, listing_count};
 ghost use Rattle.console.specs.Inside.Left.{words_in};
 
 use crate::form::{BodyForm, ListingForm, QueryForm, Words};
@@ -39,6 +40,7 @@ pub(crate) fn head_in(sequence: &[u8], moment: &[u8]) -> Option<Head>
 /// The query that words of this form ask, if each is in range.
 #[inline(always)]
 pub(crate) fn query_in(form: QueryForm, words: &Words<'_>) -> Option<Query>
+    requires { words.now.count ≡ query_count form }
     ensures { result ≡ query_in form (words_in words.now) }
 {
     match form {
@@ -54,6 +56,7 @@ pub(crate) fn query_in(form: QueryForm, words: &Words<'_>) -> Option<Query>
 /// The listing that words of this form ask for, if each is in range.
 #[inline(always)]
 pub(crate) fn listing_in(form: ListingForm, words: &Words<'_>) -> Option<Listing>
+    requires { words.now.count ≡ listing_count form }
     ensures { result ≡ listing_in form (words_in words.now) }
 {
     match form {
@@ -85,6 +88,7 @@ pub(crate) fn body_in<A: Allocator>(
     form: BodyForm,
     words: &Words<'_>,
 ) -> Result<Option<Body<A>>, AllocError>
+    requires { words.now.count ≡ command_count form }
     ensures ok { IfOk result (λ body. body ≡ body_in form (words_in words.now)) }
     ensures err { OnErr result (GivesLongPdu (body_in {A = A} form (words_in words.now))) }
 {
@@ -117,6 +121,7 @@ fn bits_in<A: Allocator>(alloc: A, word: &[u8]) -> Result<Option<Bits<A>>, Alloc
 /// `mm ITSI LA PDU`
 #[inline(always)]
 fn mm_body<A: Allocator>(alloc: A, words: &Words<'_>) -> Result<Option<Body<A>>, AllocError>
+    requires { words.now.count ≡ 6 }
     ensures ok { IfOk result (λ body. body ≡ body_in Mm (words_in words.now)) }
     ensures err { OnErr result (GivesLongPdu (body_in {A = A} Mm (words_in words.now))) }
 {
@@ -132,6 +137,7 @@ fn mm_body<A: Allocator>(alloc: A, words: &Words<'_>) -> Result<Option<Body<A>>,
 /// `sds SOURCE DEST PDU`
 #[inline(always)]
 fn sds_body<A: Allocator>(alloc: A, words: &Words<'_>) -> Result<Option<Body<A>>, AllocError>
+    requires { words.now.count ≡ 6 }
     ensures ok { IfOk result (λ body. body ≡ body_in Sds (words_in words.now)) }
     ensures err { OnErr result (GivesLongPdu (body_in {A = A} Sds (words_in words.now))) }
 {
@@ -150,6 +156,7 @@ fn sds_body<A: Allocator>(alloc: A, words: &Words<'_>) -> Result<Option<Body<A>>
 
 /// `gsds SOURCE GTSI PDU`
 fn group_sds_body<A: Allocator>(alloc: A, words: &Words<'_>) -> Result<Option<Body<A>>, AllocError>
+    requires { words.now.count ≡ 6 }
     ensures ok { IfOk result (λ body. body ≡ body_in GroupSds (words_in words.now)) }
     ensures err { OnErr result (GivesLongPdu (body_in {A = A} GroupSds (words_in words.now))) }
 {
@@ -164,6 +171,7 @@ fn group_sds_body<A: Allocator>(alloc: A, words: &Words<'_>) -> Result<Option<Bo
 
 /// `rule PREFIX LOW HIGH LIFE KEEP`
 fn rule_body<A: Allocator>(words: &Words<'_>) -> Option<Body<A>>
+    requires { words.now.count ≡ 8 }
     ensures { result ≡ body_in RuleSet (words_in words.now) }
 {
     let (Ok(prefix), Some(rule)) = (parse_prefix(words.at(3)), rule_in(words)) else {
@@ -174,6 +182,7 @@ fn rule_body<A: Allocator>(words: &Words<'_>) -> Option<Body<A>>
 
 /// `unrule PREFIX`
 fn unrule_body<A: Allocator>(words: &Words<'_>) -> Option<Body<A>>
+    requires { words.now.count ≡ 4 }
     ensures { result ≡ body_in RuleClear (words_in words.now) }
 {
     match parse_prefix(words.at(3)) {
@@ -236,6 +245,7 @@ fn lifetime_in(word: &[u8]) -> Option<Lifetime>
 
 /// `LOW HIGH LIFE KEEP`, after a prefix
 fn rule_in(words: &Words<'_>) -> Option<Rule>
+    requires { words.now.count ≡ 8 }
     ensures { result ≡ rule_in (word 4 (words_in words.now)) (word 5 (words_in words.now)) (word 6 (words_in words.now)) (word 7 (words_in words.now)) }
 {
     let (Some(low), Some(high), Some(lifetime), Some(keep)) = (
@@ -274,6 +284,7 @@ fn kind_in(word: &[u8]) -> Option<Kind>
 /// `DEST SOURCE REF KIND`
 #[inline(always)]
 fn key_in(words: &Words<'_>) -> Option<Key>
+    requires { words.now.count ≡ 7 }
     ensures { result ≡ key_in (word 3 (words_in words.now)) (word 4 (words_in words.now)) (word 5 (words_in words.now)) (word 6 (words_in words.now)) }
 {
     let (Ok(destination), Ok(source), Some(reference), Some(kind)) = (

@@ -124,5 +124,6 @@ pub(crate) const MOST_WORDS: usize = 8;
 pub(crate) struct Words<'a> {
     pub(crate) places: [&'a [u8]; MOST_WORDS],
     pub(crate) count: usize,
+    ghost some: { 1 ≤ count },
     ghost few: { count ≤ 8 },
 }

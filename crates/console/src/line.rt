@@ -1,14 +1,15 @@
 ghost use Rattle.std.specs.Prelude.{◌≡◌, Some, IfOk, IfErr, OnErr, IsSome};
-ghost use Rattle.centre_core.specs.Ranges.{IsShort, pdu_of};
+ghost use Rattle.centre_core.specs.Ranges.{BodyInRange, IsShort, pdu_of};
 ghost use Rattle.console.specs.declared.line.Line.TheVariants.{Apply, Ask, Print, Mark as MarkLine};
 ghost use Rattle.console.specs.Reading.{reading, sequence_of, words, of_words, of_form, command_line, command_of, line_of};
+ghost use Rattle.console.specs.Inside.Counts.{command_count, count_of};
 ghost use Rattle.console.specs.Inside.Left.{bytes_left, words_in};
 
 use crate::body::{Head, body_in, head_in, listing_in, query_in};
-use crate::form::{BodyForm, Form, Words, form_of};
+use crate::form::{BodyForm, Form, MOST_WORDS, Words, form_of};
 use crate::mark::Mark;
 use crate::spaces::{Rest, whole};
-use crate::split::{split_any, split_marked};
+use crate::split::{cut, next_word};
 use centre_core::{Body, Command, Query, Sequence};
 use listings::Listing;
 use registration::Station;
@@ -104,31 +105,52 @@ fn read_text<A: Allocator>(alloc: A, station: Station, line: &[u8]) -> Result<Li
 
 /// As `read_text`, for a line whose spaces are marked.
 #[inline(always)]
-#[tactic(auto, using(crate::proofs::Forms::many_words))]
 fn read_marked<A: Allocator>(alloc: A, station: Station, line: Rest<'_>) -> Result<Line<A>, Unread>
     ensures ok { IfOk result (λ said. said ≡ of_words station (words (bytes_left line.entry))) }
     ensures err { IfErr result (λ unread. sequence_of (of_words {A = A} station (words (bytes_left line.entry))) ≡ Some unread.sequence) }
 {
-    let Some(words) = split_marked(line) else {
-        return Ok(Line::Bad(LineFault::Syntax));
+    let mut words = Words {
+        places: [line.line; MOST_WORDS],
+        count: 1,
     };
-    read_words(alloc, station, &words)
+    let mut rest = line;
+    for at in 0..MOST_WORDS {
+        let (word, following) = next_word(rest);
+        words.places[at] = word;
+        let Some(following) = following else {
+            words.count = at + 1;
+            return read_words(alloc, station, &words);
+        };
+        rest = following;
+    }
+    Ok(Line::Bad(LineFault::Syntax))
 }
 
 /// As `read_text`, for a line of any length.
-#[tactic(auto, using(crate::proofs::Forms::many_words))]
 fn read_any<A: Allocator>(alloc: A, station: Station, line: &[u8]) -> Result<Line<A>, Unread>
     ensures ok { IfOk result (λ said. said ≡ of_words station (words line.now)) }
     ensures err { IfErr result (λ unread. sequence_of (of_words {A = A} station (words line.now)) ≡ Some unread.sequence) }
 {
-    match split_any(line) {
-        Some(words) => read_words(alloc, station, &words),
-        None => Ok(Line::Bad(LineFault::Syntax)),
+    let mut words = Words {
+        places: [line; MOST_WORDS],
+        count: 1,
+    };
+    let mut rest = line;
+    for at in 0..MOST_WORDS {
+        let (word, following) = cut(rest);
+        words.places[at] = word;
+        let Some(following) = following else {
+            words.count = at + 1;
+            return read_words(alloc, station, &words);
+        };
+        rest = following;
     }
+    Ok(Line::Bad(LineFault::Syntax))
 }
 
 /// Finds the form of the words. Only then are they judged.
 #[inline(always)]
+#[tactic(auto, using(crate::proofs::Forms::counted))]
 fn read_words<A: Allocator>(
     alloc: A,
     station: Station,
@@ -152,6 +174,7 @@ fn read_form<A: Allocator>(
     form: Form,
     words: &Words<'_>,
 ) -> Result<Line<A>, Unread>
+    requires { words.now.count ≡ count_of form }
     ensures ok { IfOk result (λ said. said ≡ of_form station form (words_in words.now)) }
     ensures err { IfErr result (λ unread. sequence_of (of_form {A = A} station form (words_in words.now)) ≡ Some unread.sequence) }
 {
@@ -201,6 +224,7 @@ fn read_command<A: Allocator>(
     form: BodyForm,
     words: &Words<'_>,
 ) -> Result<Line<A>, Unread>
+    requires { words.now.count ≡ command_count form }
     ensures ok { IfOk result (λ said. said ≡ command_line station form (words_in words.now)) }
     ensures err { IfErr result (λ unread. sequence_of (command_line {A = A} station form (words_in words.now)) ≡ Some unread.sequence) }
 {
@@ -222,8 +246,48 @@ fn line_of_command<A: Allocator>(station: Station, head: Head, body: Body<A>) ->
     requires { IsShort (pdu_of body) }
     ensures { result ≡ line_of Apply (command_of station (Some head) (Some body)) }
 {
-    match Command::new(station, head.sequence, head.moment, body) {
-        Some(command) => Line::Apply(command),
-        None => Line::Bad(LineFault::Value),
+    let Head { sequence, moment } = head;
+    let _head = (sequence.number(), moment.number());
+    hold_ranges(&body);
+    Line::Apply(Command {
+        station,
+        sequence,
+        moment,
+        body,
+    })
+}
+
+// Does nothing. Its clause names the ranges that the types of the parts keep.
+#[inline(always)]
+fn hold_ranges<A: Allocator>(body: &Body<A>)
+    requires { IsShort (pdu_of body.now) }
+    ensures { BodyInRange body.now }
+{
+    match body {
+        Body::RuleSet { prefix, rule } => {
+            let _bits = prefix.len();
+            let _rule = (rule.low(), rule.high().number(), rule.keep());
+        }
+        Body::RuleClear { prefix } => {
+            let _bits = prefix.len();
+        }
+        Body::Mm { itsi, area, .. } => {
+            let _parts = (itsi.number(), area.number());
+        }
+        Body::Sds {
+            source,
+            destination,
+            ..
+        } => {
+            let _parts = (source.number(), destination.number());
+        }
+        Body::GroupSds { source, group, .. } => {
+            let _parts = (source.number(), group.number());
+        }
+        Body::Sent(key) | Body::Delete(key) => {
+            let _identities = (key.destination.number(), key.source.number());
+            let _reference = key.reference.number();
+        }
+        Body::Expire => {}
     }
 }

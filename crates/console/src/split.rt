@@ -4,17 +4,18 @@ ghost use Rattle.console.specs.Forms.{word, keyword};
 ghost use Rattle.console.specs.Reading.{Lacks, words, words_after};
 ghost use Rattle.console.specs.Inside.Left.{bytes_left, words_left, words_in};
 
-use crate::form::{MOST_WORDS, Words};
+use crate::form::Words;
 use crate::spaces::{Rest, take_first};
 use memchr::memchr;
 
 impl<'a> Words<'a> {
-    /// Word `n`, from 0. It is empty if there are not so many.
+    /// Word `n`, from 0.
     #[inline(always)]
     pub(crate) fn at(&self, n: usize) -> &'a [u8]
+        requires { n < self.now.count }
         ensures { result.now ≡ word n (words_in self.now) }
     {
-        if n < self.count { self.places[n] } else { &[] }
+        self.places[n]
     }
 
     /// The keyword.
@@ -38,7 +39,7 @@ fn first_space(line: &[u8]) -> Option<usize>
 
 /// The first word, and the text after the space that follows it.
 #[inline(always)]
-fn cut(line: &[u8]) -> (&[u8], Option<&[u8]>)
+pub(crate) fn cut(line: &[u8]) -> (&[u8], Option<&[u8]>)
     ensures { words line.now ≡ result.0.now ∷ words_after (option_map (λ r. r.now) result.1) }
 {
     match first_space(line) {
@@ -47,30 +48,9 @@ fn cut(line: &[u8]) -> (&[u8], Option<&[u8]>)
     }
 }
 
-/// The words of a line of any length, if there are no more than a form can have.
-#[inline(always)]
-pub(crate) fn split_any(line: &[u8]) -> Option<Words<'_>>
-    ensures { MatchOption result (8 < length (words line.now)) (λ found. words_in found ≡ words line.now) }
-{
-    let mut places = [line; MOST_WORDS];
-    let mut rest = line;
-    for at in 0..MOST_WORDS {
-        let (word, following) = cut(rest);
-        places[at] = word;
-        let Some(following) = following else {
-            return Some(Words {
-                places,
-                count: at + 1,
-            });
-        };
-        rest = following;
-    }
-    None
-}
-
 /// The first word, and what is left after it and its space.
 #[inline(always)]
-fn next_word(rest: Rest<'_>) -> (&[u8], Option<Rest<'_>>)
+pub(crate) fn next_word(rest: Rest<'_>) -> (&[u8], Option<Rest<'_>>)
     ensures { words (bytes_left rest.entry) ≡ result.0.now ∷ words_left result.1 }
 {
     if rest.marks == 0 {
@@ -84,25 +64,4 @@ fn next_word(rest: Rest<'_>) -> (&[u8], Option<Rest<'_>>)
         marks,
     };
     (word, Some(left))
-}
-
-/// The words of a line whose spaces are marked, if there are no more than a form can have.
-#[inline(always)]
-pub(crate) fn split_marked(line: Rest<'_>) -> Option<Words<'_>>
-    ensures { MatchOption result (8 < length (words (bytes_left line.entry))) (λ found. words_in found ≡ words (bytes_left line.entry)) }
-{
-    let mut places = [line.line; MOST_WORDS];
-    let mut rest = line;
-    for at in 0..MOST_WORDS {
-        let (word, following) = next_word(rest);
-        places[at] = word;
-        let Some(following) = following else {
-            return Some(Words {
-                places,
-                count: at + 1,
-            });
-        };
-        rest = following;
-    }
-    None
 }
