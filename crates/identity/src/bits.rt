@@ -1,8 +1,8 @@
 //! Strings of bits, packed in bytes.
 
-ghost use Rattle.std.specs.Prelude.{◌≡◌, ◌==◌, ◌<◌, ◌≤◌, ◌^◌, ◌++◌, ◌+◌, ◌*◌, ◌↔◌, Bool, List, [], length, take, IfOk, IfErr, OnErr, OnOk, IsTrue, slice_get, Some};
+ghost use Rattle.std.specs.Prelude.{◌≡◌, ◌==◌, ◌<◌, ◌≤◌, ◌^◌, ◌++◌, ◌+◌, ◌*◌, ◌↔◌, Bool, List, [], length, take, drop, IfOk, IfErr, OnErr, OnOk, IsTrue, slice_get, Some};
 ghost use Rattle.std.specs.Ordering.{eq_by_cmp};
-ghost use Rattle.identity.specs.Number.{num};
+ghost use Rattle.identity.specs.Number.{num, number};
 ghost use Rattle.identity.specs.Packed.{bits_of, IsPacked};
 ghost use Rattle.identity.specs.Inside.Kept.{kept, AreKept, IsClear};
 ghost use Rattle.identity.specs.Path.{path_cmp};
@@ -11,6 +11,7 @@ ghost use Rattle.identity.specs.declared.fault.Fault.TheVariants.{NoMemory};
 
 use crate::display::write_hex;
 use crate::packed::{append_bits, bit_in, first_eight, same_bytes, spill, with_number};
+use crate::reader::number_at;
 use crate::{BitReader, Fault};
 use std::alloc::{Allocator, Global};
 use std::fmt;
@@ -56,6 +57,17 @@ impl<A: Allocator> Bits<A> {
         ensures { slice_get self.now at ≡ Some result }
     {
         bit_in(self.held(), at)
+    }
+
+    /// The `width` bits from place `at` on as a number.
+    #[inline(always)]
+    pub fn number(&self, at: usize, width: u32) -> u64
+        requires width { width ≤ 48 }
+        requires room { at + width ≤ length self.now }
+        ensures value { result ≡ number (take width (drop at self.now)) }
+        ensures small { result < 2 ^ width }
+    {
+        number_at(self.held(), at, width)
     }
 
     /// A copy under the given allocator; `Fault::NoMemory` where that is out of memory, as can be for more than 64 bits.

@@ -45,7 +45,7 @@ fn word_at(bytes: &[u8], start: usize) -> u64
 
 /// The `width` bits from place `at` on as a number: part of the eight bytes from there on, or of the last eight.
 #[inline(always)]
-fn number_at(bytes: &[u8], at: usize, width: u32) -> u64
+pub(crate) fn number_at(bytes: &[u8], at: usize, width: u32) -> u64
     requires width { width ≤ 48 }
     requires eight { 8 ≤ length bytes.now }
     requires room { at + width ≤ 8 * length bytes.now }

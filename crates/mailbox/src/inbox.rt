@@ -113,6 +113,10 @@ fn make_room<A: Allocator>(items: &mut Vec<Item<A>, A>, key: &Key) -> Result<(),
         remove_at(items, key);
         return Ok(());
     }
+    if items.is_empty() {
+        // `reserve` would take a first block for four items.
+        return items.reserve_exact(1);
+    }
     items.reserve(1)
 }
 

@@ -207,10 +207,12 @@ fn balanced<A: Allocator>(place: Place, earlier: Option<Link<A>>, later: Option<
     ensures places { result.places ≡ all_of place earlier later }
     ensures height { IsBalanced (height_of earlier) (height_of later) result.height }
 {
-    if height(&later) > height(&earlier).saturating_add(1) {
+    let earlier_height = height(&earlier);
+    let later_height = height(&later);
+    if later_height > earlier_height.saturating_add(1) {
         return turn_earlier(place, earlier, later);
     }
-    if height(&earlier) > height(&later).saturating_add(1) {
+    if earlier_height > later_height.saturating_add(1) {
         return turn_later(place, earlier, later);
     }
     Node::of(place, earlier, later)

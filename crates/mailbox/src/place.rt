@@ -25,7 +25,7 @@ impl Place {
     pub(crate) fn is_before(&self, number: u64, key: &Key) -> bool
         ensures { IsTrue result ↔ slice_cmp nat_cmp (place_at self.now.number self.now.key) (place_at number key.now) ≡ Less }
     {
-        self.numbers().cmp(&numbers(number, key)) == Ordering::Less
+        named_cmp(self.number, &self.key, number, key) == Ordering::Less
     }
 
     /// Whether it comes after this number and key. Each place comes after `None`.
@@ -33,7 +33,9 @@ impl Place {
         ensures { result ≡ is_after named_cmp name_of after.now self.now }
     {
         match after {
-            Some((number, key)) => numbers(*number, key).cmp(&self.numbers()) == Ordering::Less,
+            Some((number, key)) => {
+                named_cmp(*number, key, self.number, &self.key) == Ordering::Less
+            }
             None => true,
         }
     }
@@ -41,13 +43,19 @@ impl Place {
     pub(crate) fn cmp(&self, other: &Place) -> Ordering
         ensures { result ≡ place_cmp self.now other.now }
     {
-        self.numbers().cmp(&other.numbers())
+        named_cmp(self.number, &self.key, other.number, &other.key)
     }
+}
 
-    fn numbers(&self) -> [u64; 5]
-        ensures { result ≡ place_at self.now.number self.now.key }
-    {
-        numbers(self.number, &self.key)
+// The order of two numbers with their keys. Where the numbers differ, no key is read.
+#[inline(always)]
+fn named_cmp(number: u64, key: &Key, other: u64, other_key: &Key) -> Ordering
+    ensures { result ≡ named_cmp (number, key.now) (other, other_key.now) }
+{
+    match number.cmp(&other) {
+        Ordering::Less => Ordering::Less,
+        Ordering::Greater => Ordering::Greater,
+        Ordering::Equal => numbers(number, key).cmp(&numbers(other, other_key)),
     }
 }
 

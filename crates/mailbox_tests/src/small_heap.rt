@@ -100,9 +100,10 @@ fn ends(alloc: Global, ample: &LocalHeap) -> Result<[bool; 18], Fail> {
     Ok(seen)
 }
 
-/// Each item needs a node of its own, the first message and the first report an inbox too, the fifth of each a longer one.
-/// The shorter one leaves room for the next three nodes. At last there is memory for all but a copy (16), and for all (17).
-const ENDS: [usize; 12] = [0, 1, 2, 3, 4, 8, 9, 10, 11, 12, 16, 17];
+/// Each item needs a node of its own, the first message and the first report an inbox too, the second and the fifth of each a
+/// longer one. The shorter ones leave room for the next node and the next three. At last there is memory for all but a copy (16),
+/// and for all (17).
+const ENDS: [usize; 10] = [0, 1, 3, 4, 8, 9, 11, 12, 16, 17];
 
 fn are_seen(alloc: Global) -> Result<bool, Fail> {
     let ample = LocalHeap::new(alloc, 1 << 16)?;

@@ -13,7 +13,7 @@ use crate::{
     DeliveryReportRequest, DeliveryStatus, FIRST_IDENTIFIER, Head, MOST_BITS, MessageReference,
     ProtocolIdentifier, Sds, SdsFault,
 };
-use identity::{BitReader, Bits};
+use identity::Bits;
 use std::alloc::Allocator;
 
 /// The `width` bits from place `at` on as a number.
@@ -23,9 +23,7 @@ pub fn field<A: Allocator>(bits: &Bits<A>, at: usize, width: u32) -> u64
     ensures value { result ≡ field at width bits.now }
     ensures small { result < 2 ^ width }
 {
-    let mut reader = BitReader::new(bits);
-    let _before = reader.cut(at).unwrap();
-    reader.take(width).unwrap()
+    bits.number(at, width)
 }
 
 /// The bit at place `at`.

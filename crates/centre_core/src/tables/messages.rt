@@ -1,5 +1,5 @@
 //! Short messages in the tables.
-ghost use Rattle.std.specs.Prelude.{◌≡◌, ◌+◌, IfOk, OnErr, IsTrue, map, None};
+ghost use Rattle.std.specs.Prelude.{◌≡◌, ◌+◌, IfOk, OnErr, IsTrue, None};
 ghost use Rattle.std.specs.Option.{is_none};
 ghost use Rattle.sds_tl.specs.Reading.{heading, cleared};
 ghost use Rattle.mailbox.specs.declared.key.Kind.TheVariants as kind;
@@ -27,9 +27,8 @@ impl<A: Allocator + Clone> Tables<A> {
     ) -> Result<Items<C>, AllocError>
         ensures { IfOk result (λ items. items ≡ waiting self.now.mail itsi) }
     {
-        let waiting = self.mail.waiting(alloc, itsi)?;
         Ok(Items {
-            items: copies(alloc, &waiting)?,
+            items: copies(alloc, self.mail.items_of(itsi))?,
         })
     }
 
@@ -218,9 +217,9 @@ fn envelope(source: Itsi, destination: Itsi, reference: MessageReference) -> Env
 
 fn copies<A: Allocator, B: Allocator + Copy>(
     alloc: B,
-    items: &[&Item<A>],
+    items: &[Item<A>],
 ) -> Result<Vec<Item<B>, B>, AllocError>
-    ensures { IfOk result (λ copies. copies.items ≡ map (λ item. item.now) items.now) }
+    ensures { IfOk result (λ copies. copies.items ≡ items.now) }
 {
     let mut copies = Vec::with_capacity(alloc, items.len())?;
     for item in items {

@@ -1,5 +1,5 @@
-use Rattle.std.proofs.Common.{◌≡◌, take, map}
+use Rattle.std.proofs.Common.{◌≡◌, take}
 use Rattle.centre_core.proofs.tables.messages.copies.Given as goal
 
 abbrev pub invariant-loop-item : goal.invariant-loop-item
-invariant-loop-item g l = l.copies.items ≡ map (λ i. i.now) (take l.item-index l.items)
+invariant-loop-item g l = l.copies.items ≡ take l.item-index l.items
