@@ -5,37 +5,37 @@ use mathlib.Core.Option.{some, some-ne-none}
 use lib.ListN.{get_elem?}
 use Rattle.crossbeam_channel.specs.Fifo.{Pushes, Pops, Forks, Merges, Learns}
 use Rattle.atomic_table.proofs.Lists.{at_set, at_snoc}
-use Rattle.answers.specs.declared.rule.View.{View}
-use Rattle.answers.specs.Views.{view_of, Fits, IsInOrder}
+use Rattle.answers.specs.declared.rule.ChannelView.{ChannelView}
+use Rattle.answers.specs.Views.{view_with, Fits, IsInOrder}
 
 module _ {T : Type 0} where
-  at_end : (l : List (View T)) (a b : (View T)) (j : ℕ) → get_elem? l j ≢ some b → get_elem? (l ++ a ∷ []) j ≡ some b → j ≡ length l
+  at_end : (l : List (ChannelView T)) (a b : (ChannelView T)) (j : ℕ) → get_elem? l j ≢ some b → get_elem? (l ++ a ∷ []) j ≡ some b → j ≡ length l
   at_end [] a b zero n e = refl
   at_end [] a b (suc j) n e = absurd (some-ne-none b (sym e))
   at_end (x ∷ xs) a b zero n e = absurd (n e)
   at_end (x ∷ xs) a b (suc j) n e = ap suc (at_end xs a b j n e)
 
-  abbrev All : (ℕ → (View T) → Type 0) → List (View T) → Type 0
-  All F views = (port : ℕ) (v : (View T)) → get_elem? views port ≡ some v → F port v
+  abbrev All : (ℕ → (ChannelView T) → Type 0) → List (ChannelView T) → Type 0
+  All F views = (port : ℕ) (v : (ChannelView T)) → get_elem? views port ≡ some v → F port v
 
-  all_set : (F : ℕ → (View T) → Type 0) (views : List (View T)) (port : ℕ) (w : (View T)) → F port w →
-      ((j : ℕ) (u : (View T)) → j ≢ port → get_elem? views j ≡ some u → F j u) → All F (set views port w)
-  all_set F views port w mine others j u e = ⊎_elim (λ (x : (j ≡ port) × (w ≡ u)). subst (λ (y : ℕ × (View T)). F y.0 y.1) (λ i. (sym x.0 i, x.1 i)) mine)
+  all_set : (F : ℕ → (ChannelView T) → Type 0) (views : List (ChannelView T)) (port : ℕ) (w : (ChannelView T)) → F port w →
+      ((j : ℕ) (u : (ChannelView T)) → j ≢ port → get_elem? views j ≡ some u → F j u) → All F (set views port w)
+  all_set F views port w mine others j u e = ⊎_elim (λ (x : (j ≡ port) × (w ≡ u)). subst (λ (y : ℕ × (ChannelView T)). F y.0 y.1) (λ i. (sym x.0 i, x.1 i)) mine)
       (λ (x : (j ≢ port) × (get_elem? views j ≡ some u)). others j u x.0 x.1) (at_set views port j w u e)
 
-  pub begins : IsInOrder {T = T} [] (view_of true true [] [] ∷ [])
+  pub begins : IsInOrder {T = T} [] (view_with true true [] [] ∷ [])
   begins = (
     0,
     0,
     [],
     [],
     refl,
-    all_set (Fits 0 0 [] []) (view_of true true [] [] ∷ []) 0 (view_of true true [] [])
+    all_set (Fits 0 0 [] []) (view_with true true [] [] ∷ []) 0 (view_with true true [] [])
         ((λ _. (refl, refl)), λ _. (refl, refl)) (λ j u other e. absurd (other (at_end [] _ u j (λ x. some-ne-none u (sym x)) e))),
   )
 
-  pub sends : (n port : ℕ) (v : (View T)) (x : T) → v.sends ≡ true → Pushes IsInOrder n port v x (λ w. w ≡ view_of v.sends v.receives (v.sent ++ x ∷ []) v.received)
-  sends n port v x may items views _ h at = let w : (View T) = view_of v.sends v.receives (v.sent ++ x ∷ []) v.received in let mine = h.5 port v at in let sent = h.2 ++ x ∷ [] in (
+  pub sends : (n port : ℕ) (v : (ChannelView T)) (x : T) → v.sends ≡ true → Pushes IsInOrder n port v x (λ w. w ≡ view_with v.sends v.receives (v.sent ++ x ∷ []) v.received)
+  sends n port v x may items views _ h at = let w : (ChannelView T) = view_with v.sends v.receives (v.sent ++ x ∷ []) v.received in let mine = h.5 port v at in let sent = h.2 ++ x ∷ [] in (
     w,
     (
       h.0,
@@ -49,8 +49,8 @@ module _ {T : Type 0} where
     refl,
   )
 
-  pub receives : (port : ℕ) (v : (View T)) → v.receives ≡ true → Pops IsInOrder port v (λ x w. w ≡ view_of v.sends v.receives v.sent (v.received ++ x ∷ []))
-  receives port v may x items views h at = let w : (View T) = view_of v.sends v.receives v.sent (v.received ++ x ∷ []) in let mine = h.5 port v at in let received = h.3 ++ x ∷ [] in (
+  pub receives : (port : ℕ) (v : (ChannelView T)) → v.receives ≡ true → Pops IsInOrder port v (λ x w. w ≡ view_with v.sends v.receives v.sent (v.received ++ x ∷ []))
+  receives port v may x items views h at = let w : (ChannelView T) = view_with v.sends v.receives v.sent (v.received ++ x ∷ []) in let mine = h.5 port v at in let received = h.3 ++ x ∷ [] in (
     w,
     (
       h.0,
@@ -64,10 +64,10 @@ module _ {T : Type 0} where
     refl,
   )
 
-  pub forks : (port : ℕ) (v : (View T)) → v.sends ≡ true → v.receives ≡ true → Forks IsInOrder port v (view_of true false v.sent []) (view_of false true [] v.received)
-  forks port v a b items views h at = let l : (View T) = view_of true false v.sent [] in let r : (View T) = view_of false true [] v.received in
-      let mine = h.5 port v at in let vs : List (View T) = set views port l in
-      let Old : ℕ → (View T) → Type 0 = λ j u. (u.sends ≡ true → (j ≡ h.0) × (u.sent ≡ h.2)) × (u.receives ≢ true) in
+  pub forks : (port : ℕ) (v : (ChannelView T)) → v.sends ≡ true → v.receives ≡ true → Forks IsInOrder port v (view_with true false v.sent []) (view_with false true [] v.received)
+  forks port v a b items views h at = let l : (ChannelView T) = view_with true false v.sent [] in let r : (ChannelView T) = view_with false true [] v.received in
+      let mine = h.5 port v at in let vs : List (ChannelView T) = set views port l in
+      let Old : ℕ → (ChannelView T) → Type 0 = λ j u. (u.sends ≡ true → (j ≡ h.0) × (u.sent ≡ h.2)) × (u.receives ≢ true) in
       let old : All Old vs = all_set Old views port l ((λ _. mine.0 a), λ p. true≢false (sym p)) (λ j u other e. ((h.5 j u e).0, λ p. other (((h.5 j u e).1 p).0 ∙ sym (mine.1 b).0))) in (
         h.0,
         length vs,
@@ -76,17 +76,17 @@ module _ {T : Type 0} where
         h.4,
         λ j u e. ⊎_elim (λ x. ((old j u x).0, λ p. absurd ((old j u x).1 p)))
             (λ (is : r ≡ u). (
-              (λ p. absurd (true≢false (sym (ap (λ (y : (View T)). y.sends) is ∙ p)))),
+              (λ p. absurd (true≢false (sym (ap (λ (y : (ChannelView T)). y.sends) is ∙ p)))),
               λ p.
-                  (at_end vs r u j (λ x. (old j u x).1 p) e, ap (λ (y : (View T)). y.received) (sym is) ∙ (mine.1 b).1),
+                  (at_end vs r u j (λ x. (old j u x).1 p) e, ap (λ (y : (ChannelView T)). y.received) (sym is) ∙ (mine.1 b).1),
             )) (at_snoc vs r u j e),
       )
 
-  pub merges : (port : ℕ) (v : (View T)) (other : ℕ) (u : (View T)) → v.sends ≡ true → u.receives ≡ true →
-      Merges IsInOrder port v other u (view_of true true v.sent u.received) (view_of false false [] [])
-  merges port v other u a b items views h at two at' = let both : (View T) = view_of true true v.sent u.received in let mine = h.5 port v at in let vs : List (View T) = set views port both in
+  pub merges : (port : ℕ) (v : (ChannelView T)) (other : ℕ) (u : (ChannelView T)) → v.sends ≡ true → u.receives ≡ true →
+      Merges IsInOrder port v other u (view_with true true v.sent u.received) (view_with false false [] [])
+  merges port v other u a b items views h at two at' = let both : (ChannelView T) = view_with true true v.sent u.received in let mine = h.5 port v at in let vs : List (ChannelView T) = set views port both in
       let was : get_elem? views other ≡ some u = ⊎_elim (λ x. absurd (two x.0)) (λ x. x.1) (at_set views port other both u at') in let theirs = (h.5 other u was).1 b in
-      let Now : ℕ → (View T) → Type 0 = λ j y. j ≢ other → Fits h.0 port h.2 h.3 j y in
+      let Now : ℕ → (ChannelView T) → Type 0 = λ j y. j ≢ other → Fits h.0 port h.2 h.3 j y in
       let now : All Now vs = all_set Now views port both (λ _. ((λ _. mine.0 a), λ _. (refl, theirs.1)))
       (λ j y _ e apart. ((h.5 j y e).0, λ p. absurd (apart (((h.5 j y e).1 p).0 ∙ sym theirs.0)))) in (
         h.0,
@@ -94,12 +94,12 @@ module _ {T : Type 0} where
         h.2,
         h.3,
         h.4,
-        all_set (Fits h.0 port h.2 h.3) vs other (view_of false false [] []) ((λ p. absurd (true≢false (sym p))), λ p. absurd (true≢false (sym p)))
+        all_set (Fits h.0 port h.2 h.3) vs other (view_with false false [] []) ((λ p. absurd (true≢false (sym p))), λ p. absurd (true≢false (sym p)))
             (λ j y apart e. now j y e apart),
       )
 
-  pub totals : (port : ℕ) (v : (View T)) → v.sends ≡ true → v.receives ≡ true → Learns IsInOrder port v (λ items. v.sent ≡ v.received ++ items)
+  pub totals : (port : ℕ) (v : (ChannelView T)) → v.sends ≡ true → v.receives ≡ true → Learns IsInOrder port v (λ items. v.sent ≡ v.received ++ items)
   totals port v a b items views h at = let mine = h.5 port v at in (mine.0 a).1 ∙ h.4 ∙ ap (λ l. l ++ items) (sym (mine.1 b).1)
 
-  pub anything : (port : ℕ) (v : (View T)) → Learns IsInOrder port v (λ items. ⊤)
+  pub anything : (port : ℕ) (v : (ChannelView T)) → Learns IsInOrder port v (λ items. ⊤)
   anything port v items views h at = tt

@@ -3,7 +3,7 @@ ghost use Rattle.std.specs.Prelude.{◌≡◌, ◌<◌, true, false, [], ◌∷�
 ghost use mathlib.Core.List.{IsPrefix};
 ghost use Rattle.crossbeam_channel.specs.Claims.{view, IsSeatAt};
 ghost use Rattle.crossbeam_channel.specs.Ends.{sends_on, receives_on, ruled_capacity};
-ghost use Rattle.answers.specs.Views.{view_of, sent_of, received_of};
+ghost use Rattle.answers.specs.Views.{view_with, sent_of, received_of};
 ghost use Rattle.answers.specs.Sent.{HasSent, AreEnds};
 
 use crate::rule::{AnswerPass, Halves, Receives, ReceivingEnd, SendingEnd, Sends, Total};
@@ -23,7 +23,7 @@ pub struct AnswerSender<T: Drop> {
     pub pass: AnswerPass<T>,
     gone: bool,
     pub ghost seat: { IsSeatAt (sends_on channel) pass },
-    pub ghost view_is: { view pass ≡ view_of true false (sent_of pass) [] },
+    pub ghost view_is: { view pass ≡ view_with true false (sent_of pass) [] },
 }
 
 /// The session's end.
@@ -32,7 +32,7 @@ pub struct AnswerReceiver<T: Drop> {
     pub channel: ReceivingEnd<T>,
     pub pass: AnswerPass<T>,
     pub ghost seat: { IsSeatAt (receives_on channel) pass },
-    pub ghost view_is: { view pass ≡ view_of false true [] (received_of pass) },
+    pub ghost view_is: { view pass ≡ view_with false true [] (received_of pass) },
 }
 
 /// The two ends of a channel with room for so many messages. Nothing was sent yet. With room for each command that a session

@@ -4,7 +4,7 @@ use crossbeam_channel::{Pass, RuledReceiver, RuledSender};
 use std::collections::LinkedList;
 
 /// What the holder of a pass knows. No value of it is made.
-pub struct View<T> {
+pub struct ChannelView<T> {
     pub sends: bool,
     pub receives: bool,
     pub sent: LinkedList<T>,
@@ -14,47 +14,47 @@ pub struct View<T> {
 /// Messages are received in the order in which they were sent, each once.
 pub struct InOrder;
 
-impl<T> Protocol<T, View<T>> for InOrder {
+impl<T> Protocol<T, ChannelView<T>> for InOrder {
     ghost use Rattle.std.specs.Prelude.{true, []};
-    ghost use Rattle.answers.specs.Views.{view_of, IsInOrder};
+    ghost use Rattle.answers.specs.Views.{view_with, IsInOrder};
 
     ghost holds = { IsInOrder };
 
-    ghost first = { view_of true true [] [] };
+    ghost first = { view_with true true [] [] };
 }
 
 /// The first pass splits into the sender's and the receiver's; the two join again at the end.
 pub struct Halves;
 
-impl<T> Split<View<T>> for Halves {
+impl<T> Split<ChannelView<T>> for Halves {
     ghost use Rattle.std.specs.Prelude.{true, false, []};
-    ghost use Rattle.answers.specs.Views.{view_of};
+    ghost use Rattle.answers.specs.Views.{view_with};
 
-    ghost left = { λ v. view_of true false v.sent [] };
+    ghost left = { λ v. view_with true false v.sent [] };
 
-    ghost right = { λ v. view_of false true [] v.received };
+    ghost right = { λ v. view_with false true [] v.received };
 }
 
-impl<T> Join<View<T>> for Halves {
+impl<T> Join<ChannelView<T>> for Halves {
     ghost use Rattle.std.specs.Prelude.{true, false, []};
-    ghost use Rattle.answers.specs.Views.{view_of};
+    ghost use Rattle.answers.specs.Views.{view_with};
 
-    ghost both = { λ v w. view_of true true v.sent w.received };
+    ghost both = { λ v w. view_with true true v.sent w.received };
 
-    ghost spent = { view_of false false [] [] };
+    ghost spent = { view_with false false [] [] };
 }
 
 /// One send.
 pub struct Sends;
 
-impl<T> Outcome<T, View<T>> for Sends {
+impl<T> Outcome<T, ChannelView<T>> for Sends {
     ghost use Rattle.std.specs.Prelude.{◌≡◌, [], ◌∷◌, ◌++◌};
-    ghost use Rattle.answers.specs.Views.{view_of};
+    ghost use Rattle.answers.specs.Views.{view_with};
 
-    ghost then = { λ v x w. w ≡ view_of v.sends v.receives (v.sent ++ x ∷ []) v.received };
+    ghost then = { λ v x w. w ≡ view_with v.sends v.receives (v.sent ++ x ∷ []) v.received };
 }
 
-impl<T> Lesson<T, View<T>> for Sends {
+impl<T> Lesson<T, ChannelView<T>> for Sends {
     ghost use Rattle.std.specs.Prelude.{⊤};
 
     ghost fact = { λ v items. ⊤ };
@@ -63,14 +63,14 @@ impl<T> Lesson<T, View<T>> for Sends {
 /// One receive.
 pub struct Receives;
 
-impl<T> Outcome<T, View<T>> for Receives {
+impl<T> Outcome<T, ChannelView<T>> for Receives {
     ghost use Rattle.std.specs.Prelude.{◌≡◌, [], ◌∷◌, ◌++◌};
-    ghost use Rattle.answers.specs.Views.{view_of};
+    ghost use Rattle.answers.specs.Views.{view_with};
 
-    ghost then = { λ v x w. w ≡ view_of v.sends v.receives v.sent (v.received ++ x ∷ []) };
+    ghost then = { λ v x w. w ≡ view_with v.sends v.receives v.sent (v.received ++ x ∷ []) };
 }
 
-impl<T> Lesson<T, View<T>> for Receives {
+impl<T> Lesson<T, ChannelView<T>> for Receives {
     ghost use Rattle.std.specs.Prelude.{⊤};
 
     ghost fact = { λ v items. ⊤ };
@@ -79,14 +79,14 @@ impl<T> Lesson<T, View<T>> for Receives {
 /// What is known once both passes are one again.
 pub struct Total;
 
-impl<T> Lesson<T, View<T>> for Total {
+impl<T> Lesson<T, ChannelView<T>> for Total {
     ghost use Rattle.std.specs.Prelude.{◌≡◌, ◌++◌};
 
     ghost fact = { λ v items. v.sent ≡ v.received ++ items };
 }
 
-pub type SendingEnd<T> = RuledSender<T, View<T>, InOrder>;
+pub type SendingEnd<T> = RuledSender<T, ChannelView<T>, InOrder>;
 
-pub type ReceivingEnd<T> = RuledReceiver<T, View<T>, InOrder>;
+pub type ReceivingEnd<T> = RuledReceiver<T, ChannelView<T>, InOrder>;
 
-pub type AnswerPass<T> = Pass<T, View<T>>;
+pub type AnswerPass<T> = Pass<T, ChannelView<T>>;

@@ -130,7 +130,7 @@ fn put_item(
     let Some(item) = from.next(last) else {
         return None;
     };
-    let Ok(copy) = item.copied(alloc) else {
+    let Ok(copy) = item.copy(alloc) else {
         return None;
     };
     let place = (copy.number(), copy.key());

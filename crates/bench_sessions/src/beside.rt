@@ -1,6 +1,6 @@
 //! Sessions, each in a thread of its own, beside the flusher.
 ghost use Rattle.flusher.specs.Served.{IsSettled};
-ghost use Rattle.flusher.specs.View.{view_of};
+ghost use Rattle.flusher.specs.View.{view_of_flusher};
 
 use crate::together::{TOGETHER, accepted_together, is_accepted};
 use flusher::{Flusher, Session};
@@ -91,7 +91,7 @@ fn flush<J: Centre, D: Disk, R: Wait>(
     flusher: &mut Flusher<J, D>,
     sessions: u64,
 )
-    requires settled { IsSettled J.base (view_of flusher.old) }
+    requires settled { IsSettled J.base (view_of_flusher flusher.old) }
 {
     for _ in 0..u64::MAX {
         if load.ended.load(Ordering::SeqCst) >= sessions {
@@ -124,13 +124,13 @@ pub(crate) fn serve<J: Centre + Send + Sync, D: Disk, R: Threads + Wait + Sync>(
     flusher: &mut Flusher<J, D>,
     sessions: Vec<Session<J>>,
 )
-    requires settled { IsSettled J.base (view_of flusher.old) }
+    requires settled { IsSettled J.base (view_of_flusher flusher.old) }
 {
     thread::scope(
         thread::scope_env(),
         rt,
         |scope|
-            requires { IsSettled J.base (view_of flusher.now) }
+            requires { IsSettled J.base (view_of_flusher flusher.now) }
         {
             let begun = begin_all(scope, rt, load, sessions);
             flush(rt, load, flusher, begun);

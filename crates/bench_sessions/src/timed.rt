@@ -1,7 +1,7 @@
 //! Times sessions in threads of their own, and the same commands committed in one thread.
 ghost use Rattle.std.specs.Prelude.{◌≡◌, ◌≤◌, false, length, IfSome};
 ghost use Rattle.flusher.specs.Served.{IsSettled};
-ghost use Rattle.flusher.specs.View.{view_of};
+ghost use Rattle.flusher.specs.View.{view_of_flusher};
 
 use crate::beside::{Load, Work, serve};
 use crate::disks::{disk_in_file, disk_in_memory, ruled};
@@ -41,7 +41,7 @@ fn centre<J: Centre, D: Disk + Drop, R: Wait>(
 ) -> Option<(Flusher<J, D>, Vec<Session<J>>)>
     requires sound { store.broken ≡ false }
     requires centre { (log.seen.book ≡ J.book) × (store.register ≡ J.base) }
-    ensures settled { IfSome result (λ r. IsSettled J.base (view_of r.0)) }
+    ensures settled { IfSome result (λ r. IsSettled J.base (view_of_flusher r.0)) }
 {
     match open_centre::<J, D, R>(rt, alloc, log, store, sessions) {
         Ok(both) => Some(both),

@@ -15,9 +15,9 @@ or_left : (a b : Bool) → IsTrue a → IsTrue (a || b)
 or_left true b h = refl
 or_left false b h = cc
 
-or_right : (a b : Bool) → IsTrue b → IsTrue (a || b)
-or_right true b h = refl
-or_right false b h = h
+is_true_or_right : (a b : Bool) → IsTrue b → IsTrue (a || b)
+is_true_or_right true b h = refl
+is_true_or_right false b h = h
 
 -- A PDU of a radio, read under C for a command under B.
 module _ (B C : Type 0) (s : State) (moment itsi area : ℕ) (pdu : List Bool) where
@@ -35,5 +35,5 @@ module _ (B C : Type 0) (s : State) (moment itsi area : ℕ) (pdu : List Bool) w
   -- none for what it asks
   pub pdu_read : (read : Result (MmUp C) MmFault) → reading_up pdu ≡ read → IsTrue (needs_read s itsi area read) → IsTrue (needs_body {A = B} s moment (Mm itsi area pdu))
   pdu_read read is h =
-      or_right (reads_group (unkept_up {A = B} pdu)) _
+      is_true_or_right (reads_group (unkept_up {A = B} pdu)) _
       (subst (λ r. IsTrue (needs_read s itsi area r)) (sym (reading_moved C B pdu ∙ ap (moved C B) is)) (read_needs read h))

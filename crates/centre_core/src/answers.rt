@@ -21,7 +21,7 @@ pub(crate) fn accept_pdu<A: Allocator>(alloc: A, update: AcceptType) -> Result<B
     ensures never { IsOk result }
 {
     let pdu: MmDown<A> = MmDown::Accept { update };
-    written(alloc, &pdu)
+    write_pdu(alloc, &pdu)
 }
 
 /// The refusal of a location update, with a D-LOCATION UPDATE REJECT where there is a cause. It takes no memory. Out of
@@ -38,7 +38,7 @@ pub(crate) fn location_refusal<A: Allocator>(
         return registration_refusal(fault);
     };
     let pdu: MmDown<A> = MmDown::Reject { update, cause };
-    let reject = written(alloc, &pdu)?;
+    let reject = write_pdu(alloc, &pdu)?;
     Ok(Refusal::Location { fault, reject })
 }
 
@@ -81,10 +81,10 @@ pub(crate) fn acknowledge_pdu<A: Allocator, R: Allocator + Clone, B: Allocator, 
     ensures { IfOk result (λ pdu. pdu ≡ acknowledge_pdu registry.now itsi items.now) }
 {
     let items = answers(scratch, registry, itsi, items)?;
-    written(alloc, &MmDown::Acknowledge { items })
+    write_pdu(alloc, &MmDown::Acknowledge { items })
 }
 
-fn written<A: Allocator, B: Allocator>(alloc: A, pdu: &MmDown<B>) -> Result<Bits<A>, AllocError>
+fn write_pdu<A: Allocator, B: Allocator>(alloc: A, pdu: &MmDown<B>) -> Result<Bits<A>, AllocError>
     ensures ok { IfOk result (λ bits. bits ≡ canon_down pdu.now) }
     ensures memory { OnErr result (IsTrue (is_acknowledgement pdu.now)) }
 {

@@ -86,7 +86,7 @@ impl<A: Allocator> Command<A> {
     }
 
     // States that its fields are in range.
-    pub(crate) fn hold_ranges(&self)
+    pub(crate) fn facts_of_ranges(&self)
         ensures { InRange self.now }
     {
         let _station = self.station;
@@ -195,7 +195,7 @@ impl<A: Allocator> Body<A> {
         match self {
             Body::RuleSet { prefix, rule } => {
                 let _bits = prefix.len();
-                hold_rule(rule);
+                facts_of_rule(rule);
                 true
             }
             Body::RuleClear { prefix } => {
@@ -219,7 +219,7 @@ impl<A: Allocator> Body<A> {
                 pdu.len() <= MOST_BITS
             }
             Body::Sent(key) | Body::Delete(key) => {
-                hold_key(key);
+                facts_of_key(key);
                 true
             }
             Body::Expire => true,
@@ -264,13 +264,13 @@ impl<A: Allocator> Body<A> {
 }
 
 // These two state the ranges that the types of the parts keep.
-fn hold_rule(rule: &Rule)
+fn facts_of_rule(rule: &Rule)
     ensures { RuleInRange rule.now }
 {
     let _parts = (rule.low(), rule.high().number(), rule.keep());
 }
 
-fn hold_key(key: &Key)
+fn facts_of_key(key: &Key)
     ensures { KeyInRange key.now }
 {
     let _identities = (key.destination.number(), key.source.number());

@@ -42,7 +42,7 @@ impl<A: Allocator> LastAccepted<A> {
         })
     }
 
-    fn copied<B: Allocator>(&self, alloc: B) -> Result<LastAccepted<B>, AllocError>
+    fn copy<B: Allocator>(&self, alloc: B) -> Result<LastAccepted<B>, AllocError>
         ensures { IfOk result (λ copy. copy ≡ self.now) }
     {
         Ok(LastAccepted {
@@ -91,7 +91,7 @@ pub(crate) fn count_accepted<A: Allocator, B: Allocator>(
 }
 
 /// A copy of the entries.
-pub(crate) fn copied<A: Allocator + Clone>(
+pub(crate) fn copy_all<A: Allocator + Clone>(
     alloc: &A,
     served: &[Option<LastAccepted<A>>],
 ) -> Result<Vec<Option<LastAccepted<A>>, A>, AllocError>
@@ -112,7 +112,7 @@ fn copied_entry<A: Allocator, B: Allocator>(
 {
     match entry {
         None => Ok(None),
-        Some(last) => Ok(Some(last.copied(alloc)?)),
+        Some(last) => Ok(Some(last.copy(alloc)?)),
     }
 }
 

@@ -32,14 +32,14 @@ pub fn registers<A: Allocator>(register: &Register<A>)
     ensures state { IsState register.now }
     ensures ranges { StateInRange register.now }
 {
-    register.hold_state()
+    register.facts_of_state()
 }
 
 /// Each command is in range.
 pub fn in_range<A: Allocator>(command: &Command<A>)
     ensures { InRange command.now }
 {
-    command.hold_ranges()
+    command.facts_of_ranges()
 }
 
 /// A refused command and a resend change nothing.

@@ -79,11 +79,11 @@ impl<A: Allocator> Register<A> {
     }
 
     // States what its tables keep.
-    pub(crate) fn hold_state(&self)
+    pub(crate) fn facts_of_state(&self)
         ensures state { IsState self.now }
         ensures ranges { StateInRange self.now }
     {
-        self.tables.hold_state()
+        self.tables.facts_of_state()
     }
 }
 
@@ -137,7 +137,7 @@ impl<A: Allocator + Copy> Register<A> {
         ensures err { OnErr result (self.new ≡ self.old) }
         ensures memory { OnErr result (IsTrue (needs_memory self.old command.now)) }
     {
-        command.hold_ranges();
+        command.facts_of_ranges();
         self.tables.apply(alloc, command)
     }
 }

@@ -20,7 +20,7 @@ ghost use Rattle.centre_core.specs.History.{is_acceptance, names};
 ghost use Rattle.centre_core.specs.Laws.{MessagesStay};
 
 use crate::answers::{accept_pdu, acknowledge_pdu, location_refusal, registration_refusal};
-use crate::last_accepted::{LastAccepted, bits_copy, copied, count_accepted, none_accepted};
+use crate::last_accepted::{LastAccepted, bits_copy, copy_all, count_accepted, none_accepted};
 use crate::{Attachments, Body, Command, Parts, Query, QueryAnswer, Refusal, Reply};
 use base::TryCopy;
 use group_attach::{Attachment, Groups};
@@ -101,7 +101,7 @@ impl<A: Allocator> Tables<A> {
     }
 
     // States what its fields keep.
-    pub(crate) fn hold_state(&self)
+    pub(crate) fn facts_of_state(&self)
         ensures { IsState self.now }
     {
         let _count = self.count;
@@ -482,7 +482,7 @@ impl<A: Allocator + Clone> TryCopy for Tables<A> {
             registry: self.registry.try_copy()?,
             groups: self.groups.try_copy()?,
             mail: self.mail.try_copy()?,
-            served: copied(&self.alloc, &self.served)?,
+            served: copy_all(&self.alloc, &self.served)?,
             count: self.count,
         })
     }

@@ -10,19 +10,19 @@ use Rattle.checkpoint.specs.declared.layout.Layout.{Layout}
 use Rattle.checkpoint.specs.declared.side.Side.{Side}
 use Rattle.checkpoint.specs.Label.{label_size}
 use Rattle.checkpoint.specs.Layout.{half_at, half_end, label_at, other_of, root_at, slot_at, slot_size}
-use Rattle.checkpoint.specs.OnSide.{Base, Held, InEach, IsInHalf, IsOnSide, stated_form}
+use Rattle.checkpoint.specs.OnSide.{Base, RecordsAndGate, InEach, IsInHalf, IsOnSide, stated_form}
 use Rattle.checkpoint.proofs.Apart.{lies}
 use Rattle.checkpoint.proofs.Spared.{below_same, sectors_same}
 
 module _ {A : Type 0} (layout : Layout) (s : Side) (form : Form) (base : Base) where
-  pub is_settled : (disk : View) (held : Held A) → InEach disk (IsOnSide layout s form base held) → held.1 < half_end layout s →
+  pub is_settled : (disk : View) (held : RecordsAndGate A) → InEach disk (IsOnSide layout s form base held) → held.1 < half_end layout s →
       IsSettled disk (record { first = half_at layout s; end = half_end layout s; next = held.1; form = form; count = counted base.1.count held.0 })
       base.1.count held.0
   is_settled disk held each gate =
       let some = layout.in_range.fewest in
       record { begins = omega (arith, some); within = gate; counts = refl; half = λ image is. (each image is).half }
 
-  pub on_side_with : (held more : Held A) (was image : List (List ℕ)) → IsOnSide layout s form base held was →
+  pub on_side_with : (held more : RecordsAndGate A) (was image : List (List ℕ)) → IsOnSide layout s form base held was →
       IsTorn (half_at layout s) layout.journal was image → IsInHalf layout s form base more image → more.1 < half_end layout s →
       IsOnSide layout s form base more image
   on_side_with held more was image on_side torn half gate =

@@ -10,14 +10,14 @@ use Rattle.gated_journal.specs.Calls.{closed_gate}
 use Rattle.checkpoint.specs.declared.layout.Layout.{Layout}
 use Rattle.checkpoint.specs.declared.side.Side.{Side}
 use Rattle.checkpoint.specs.Layout.{disk_size, half_at, other_of, root_at, slot_at}
-use Rattle.checkpoint.specs.OnSide.{Base, Held, InEach, IsShut, IsOnSide}
+use Rattle.checkpoint.specs.OnSide.{Base, RecordsAndGate, InEach, IsShut, IsOnSide}
 use Rattle.checkpoint.proofs.Apart.{lies}
 use Rattle.checkpoint.proofs.Spared.{below_older, below_same, closed_as, gate_torn, left_each, older_each, root_torn, stays_on_side}
 
 closed_zeros : IsClosed closed_gate
 closed_zeros is = cc
 
-module _ {A : Type 0} (layout : Layout) (s : Side) (form : Form) (base : Base) (held : Held A) where
+module _ {A : Type 0} (layout : Layout) (s : Side) (form : Form) (base : Base) (held : RecordsAndGate A) where
   abbrev P : List (List ℕ) → Type 0
   P = IsOnSide layout s form base held
 

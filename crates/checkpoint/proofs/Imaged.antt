@@ -19,7 +19,7 @@ use Rattle.checkpoint.specs.declared.layout.Layout.{Layout}
 use Rattle.checkpoint.specs.declared.side.Side.{Side}
 use Rattle.checkpoint.specs.Layout.{half_at, half_end, other_of, root_at, slot_at, slot_size}
 use Rattle.checkpoint.specs.Calls.{row_sector}
-use Rattle.checkpoint.specs.OnSide.{Base, Held, InEach, IsReady, IsShut, IsOnSide, stated_form, fresh, sectors_from}
+use Rattle.checkpoint.specs.OnSide.{Base, RecordsAndGate, InEach, IsReady, IsShut, IsOnSide, stated_form, fresh, sectors_from}
 use Rattle.gated_journal.specs.declared.form.Form.{Form}
 use Rattle.gated_journal.specs.declared.form.Form.TheVariants.{Numbered}
 use Rattle.gated_journal.proofs.Chain.{last_gate}
@@ -82,7 +82,7 @@ module _ (layout : Layout) (s : Side) (old mid : View) (shut : IsShut layout (ot
   abbrev o : Side
   o = other_of s
 
-  module _ {A : Type 0} (form : Form) (base : Base) (held : Held A) (before : LeavesOnly old mid (IsOnSide layout s form base held)) (sound : IsSound mid) where
+  module _ {A : Type 0} (form : Form) (base : Base) (held : RecordsAndGate A) (before : LeavesOnly old mid (IsOnSide layout s form base held)) (sound : IsSound mid) where
     abbrev P : List (List ℕ) → Type 0
     P = IsOnSide layout s form base held
 

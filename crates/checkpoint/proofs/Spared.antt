@@ -13,7 +13,7 @@ use Rattle.checkpoint.specs.declared.layout.Layout.{Layout}
 use Rattle.checkpoint.specs.declared.side.Side.{Side}
 use Rattle.checkpoint.specs.Layout.{half_at, half_end, label_at, other_of, root_at, slot_at, slot_size}
 use Rattle.checkpoint.specs.Label.{label_size}
-use Rattle.checkpoint.specs.OnSide.{Base, Held, InEach, IsBelow, IsOnSide, epoch_of, stated_form, sectors_from, slot_epoch}
+use Rattle.checkpoint.specs.OnSide.{Base, RecordsAndGate, InEach, IsBelow, IsOnSide, epoch_of, stated_form, sectors_from, slot_epoch}
 use Rattle.checkpoint.proofs.Apart.{IsElsewhere, half_elsewhere, label_elsewhere, lies, root_elsewhere, slot_elsewhere}
 
 pub sectors_same : (old new : List (List ℕ)) (at n : ℕ) → ((k : ℕ) → at ≤ k → k < at + n → sector new k ≡ sector old k) → sectors_from new at n ≡ sectors_from old at n
@@ -61,7 +61,7 @@ below_same layout s epoch old new root slot (inl closed) = inl (closed_as (secto
 below_same layout s epoch old new root slot (inr (e, states, lt)) = inr (e, ap (λ (bytes : List ℕ). epoch_of (row_in bytes)) slot ∙ states, lt)
 
 module _ {A : Type 0} (layout : Layout) (s : Side) (form : Form) where
-  pub stays_on_side : (base : Base) (held : Held A) (old new : List (List ℕ)) → IsOnSide layout s form base held old →
+  pub stays_on_side : (base : Base) (held : RecordsAndGate A) (old new : List (List ℕ)) → IsOnSide layout s form base held old →
       Spares layout (other_of s) old new → IsBelow layout (other_of s) base.0 new → IsOnSide layout s form base held new
   stays_on_side base held old new was spares below = record {
     room = rw spares.count was.room;
@@ -108,7 +108,7 @@ older_or : (layout : Layout) (s : Side) (epoch : ℕ) (image : List (List ℕ)) 
 older_or layout s epoch image opened (inl closed) = absurd (closed opened)
 older_or layout s epoch image opened (inr (e, states, lt)) = record { stated = e; states = states; less = lt }
 
-pub older_each : {A : Type 0} (layout : Layout) (s : Side) (form : Form) (base : Base) (held : Held A) (disk : View) → IsSound disk →
+pub older_each : {A : Type 0} (layout : Layout) (s : Side) (form : Form) (base : Base) (held : RecordsAndGate A) (disk : View) → IsSound disk →
     root_at (other_of s) < disk.sectors → InEach disk (IsOnSide layout s form base held)
     → IsOpen (sector disk.reads (root_at (other_of s))) → InEach disk (IsOlder layout (other_of s) base.0)
 older_each layout s form base held disk sound within each opened image is =

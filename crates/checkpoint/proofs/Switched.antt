@@ -14,12 +14,12 @@ use Rattle.checkpoint.specs.declared.layout.Layout.{Layout}
 use Rattle.checkpoint.specs.declared.side.Side.{Side}
 use Rattle.checkpoint.specs.Label.{label_size}
 use Rattle.checkpoint.specs.Layout.{disk_size, half_at, half_end, label_at, other_of, root_at, slot_at, slot_size}
-use Rattle.checkpoint.specs.OnSide.{Base, Held, InEach, IsBelow, IsEither, IsReady, IsOnSide, epoch_of, stated_form}
+use Rattle.checkpoint.specs.OnSide.{Base, RecordsAndGate, InEach, IsBelow, IsEither, IsReady, IsOnSide, epoch_of, stated_form}
 use Rattle.checkpoint.proofs.Apart.{label_elsewhere, lies, other_twice, slot_elsewhere}
 use Rattle.checkpoint.proofs.Epochs.{slot_has_epoch}
 use Rattle.checkpoint.proofs.Spared.{root_torn, sectors_same, stays_on_side}
 
-module _ {A : Type 0} (layout : Layout) (s : Side) (form also : Form) (base next : Base) (held more : Held A) (newer : base.0 < next.0) where
+module _ {A : Type 0} (layout : Layout) (s : Side) (form also : Form) (base next : Base) (held more : RecordsAndGate A) (newer : base.0 < next.0) where
   abbrev o : Side
   o = other_of s
 

@@ -16,7 +16,7 @@ use Rattle.image_rows.specs.Walking.{place_of, row_after}
 use Rattle.image_rows.proofs.Walking.{rows_walk}
 use Rattle.checkpoint.specs.Calls.{row_sector}
 use Rattle.checkpoint.specs.Progress.{IsProgress}
-use Rattle.checkpoint.specs.declared.progress.Progress.{Progress}
+use Rattle.checkpoint.specs.declared.progress.ImageProgress.{ImageProgress}
 
 -- what `is_none` answers
 pub none_is : {T : Type 0} (o : Option T) (r : Bool) → is_some o ≡ not r → r ≡ is_none o
@@ -113,12 +113,12 @@ module _ (epoch : ℕ) (state : State) where
 
   -- ---- a few rows at a time
 
-  pub as_walk : (progress : Progress) → IsProgress epoch state progress → (stated : Option (RowPlace × List ℕ)) →
+  pub as_walk : (progress : ImageProgress) → IsProgress epoch state progress → (stated : Option (RowPlace × List ℕ)) →
       stated ≡ option_map placed_row (row_after epoch state progress.last) → Walk stated progress.written
   as_walk progress is stated e = record { after = progress.last; is = e; few = is.few; on = is.on }
 
   -- the next row is written
-  pub progress_on : (progress : Progress) → IsProgress epoch state progress → (place : RowPlace) (bytes : List ℕ) → Some (place, bytes) ≡ option_map placed_row (row_after epoch state progress.last)
+  pub progress_on : (progress : ImageProgress) → IsProgress epoch state progress → (place : RowPlace) (bytes : List ℕ) → Some (place, bytes) ≡ option_map placed_row (row_after epoch state progress.last)
       → (progress.written < length (rows_of epoch state)) × (bytes ≡ row_sector (epoch, state) progress.written) ×
       IsProgress epoch state (record progress { written = progress.written + 1; last = Some place })
   progress_on progress is place bytes e =
@@ -149,16 +149,16 @@ module _ (epoch : ℕ) (state : State) where
           )
 
   -- no row is left
-  pub progress_done : (progress : Progress) → IsProgress epoch state progress → None ≡ option_map placed_row (row_after epoch state progress.last) → progress.written ≡ length (rows_of epoch state)
+  pub progress_done : (progress : ImageProgress) → IsProgress epoch state progress → None ≡ option_map placed_row (row_after epoch state progress.last) → progress.written ≡ length (rows_of epoch state)
   progress_done progress is e = walk_done None progress.written (as_walk progress is None e) refl
 
   -- one is left
-  pub progress_left : (progress : Progress) → IsProgress epoch state progress → (next : RowPlace × List ℕ) →
+  pub progress_left : (progress : ImageProgress) → IsProgress epoch state progress → (next : RowPlace × List ℕ) →
       Some next ≡ option_map placed_row (row_after epoch state progress.last) → progress.written < length (rows_of epoch state)
   progress_left progress is next e = (progress_on progress is next.0 next.1 e).0
 
   -- whether none is left
-  pub whole_where_none : (progress : Progress) → IsProgress epoch state progress →
+  pub whole_where_none : (progress : ImageProgress) → IsProgress epoch state progress →
       is_none (option_map placed_row (row_after epoch state progress.last)) ≡ nat_eq progress.written (length (rows_of epoch state))
   whole_where_none progress is =
       elim (option_map placed_row (row_after epoch state progress.last)) as (λ o. o ≡ option_map placed_row (row_after epoch state progress.last) →
@@ -167,7 +167,7 @@ module _ (epoch : ℕ) (state : State) where
         | Some next ↦ λ e. let left = progress_left progress is next e in grind (arith, nat_tests)
       ] refl
 
-pub progress_begun : (epoch : ℕ) (state : State) → IsState state → StateInRange state → (progress : Progress) → progress.written ≡ 0 → progress.last ≡ None → IsProgress epoch state progress
+pub progress_begun : (epoch : ℕ) (state : State) → IsState state → StateInRange state → (progress : ImageProgress) → progress.written ≡ 0 → progress.last ≡ None → IsProgress epoch state progress
 progress_begun epoch state is ranges progress written last =
     let all : length (rows_of epoch state) + 1 - 0 ≡ length (rows_of epoch state) + 1 = omega arith in
     record { few = omega (arith, written); on = rw (written, last, all) (rows_walk epoch state (length (rows_of epoch state) + 1) is ranges (omega arith)) }

@@ -14,7 +14,7 @@ use Rattle.image_rows.specs.RowText.{header_tag}
 use Rattle.gated_journal.specs.declared.form.Form.{Form}
 use Rattle.gated_journal.specs.declared.form.Form.TheVariants.{Numbered, Plain}
 use Rattle.gated_journal.specs.declared.place.Place.{Place}
-use Rattle.gated_journal.specs.Half.{Entry, IsClosed, IsOpen, counted, half_of}
+use Rattle.gated_journal.specs.Half.{RecordAt, IsClosed, IsOpen, counted, half_of}
 use Rattle.checkpoint.specs.declared.layout.Layout.{Layout}
 use Rattle.checkpoint.specs.declared.side.Side.{Side}
 use Rattle.checkpoint.specs.Layout.{disk_size, half_at, half_end, label_at, other_of, root_at, slot_at, slot_size}
@@ -81,17 +81,17 @@ abbrev pub ReadsForm : Layout → Side → Form → View → Type 0
 ReadsForm layout side form disk = form ≡ slot_form layout side disk.reads
 
 -- the records of a half, and the sector of its first closed gate
-abbrev pub Held : Type 0 → Type 0
-Held A = List (Entry A) × Sector
+abbrev pub RecordsAndGate : Type 0 → Type 0
+RecordsAndGate A = List (RecordAt A) × Sector
 
 module _ {A : Type 0} where
   -- The side's half holds the records `held.0`, of this form, and its first closed gate is the sector `held.1`. The records come after
   -- the `base.1.count` commands of the image's register.
-  abbrev pub IsInHalf : Layout → Side → Form → Base → Held A → List (List Byte) → Type 0
+  abbrev pub IsInHalf : Layout → Side → Form → Base → RecordsAndGate A → List (List Byte) → Type 0
   IsInHalf layout side form base held image = half_of form base.1.count image (half_at layout side) (half_end layout side) ≡ Ok held
 
   -- the place where the next record of a side's half goes, after the image and these records
-  abbrev pub place_after : Layout → Side → Form → Base → Held A → Place
+  abbrev pub place_after : Layout → Side → Form → Base → RecordsAndGate A → Place
   place_after layout side form base held = record {
     first = half_at layout side;
     end = half_end layout side;
@@ -101,13 +101,13 @@ module _ {A : Type 0} where
   }
 
   -- a side's half without a record: its first gate is closed
-  abbrev pub fresh : Layout → Side → Held A
+  abbrev pub fresh : Layout → Side → RecordsAndGate A
   fresh layout side = ([], half_at layout side)
 
   -- The image of the disk is on this side. It has enough sectors for the layout, and the layout's label. The side's root is open,
   -- and the other side does not count against it (`IsBelow`). The side's slot begins with the image `base` of a register. The side's
   -- half holds the records `held`, of the form that the slot states. The closed gate after them is in the half.
-  pub record IsOnSide (layout : Layout) (side : Side) (form : Form) (base : Base) (held : Held A) (image : List (List Byte)) : Type 0 where
+  pub record IsOnSide (layout : Layout) (side : Side) (form : Form) (base : Base) (held : RecordsAndGate A) (image : List (List Byte)) : Type 0 where
     pub room : disk_size layout ≤ length image
     pub label : IsLabel layout (sector image label_at)
     pub root : IsOpen (sector image (root_at side))
@@ -119,7 +119,7 @@ module _ {A : Type 0} where
 
   -- The side is ready to be switched to. Its root is closed, and its slot begins with the image `base` of a register. Its half holds
   -- the records `held`, of the form that the slot states. The closed gate after them is in the half.
-  pub record IsReady (layout : Layout) (side : Side) (form : Form) (base : Base) (held : Held A) (image : List (List Byte)) : Type 0 where
+  pub record IsReady (layout : Layout) (side : Side) (form : Form) (base : Base) (held : RecordsAndGate A) (image : List (List Byte)) : Type 0 where
     pub root : IsClosed (sector image (root_at side))
     pub slot : IsInSlot layout side base image
     pub form_is : slot_form layout side image ≡ form
@@ -127,15 +127,15 @@ module _ {A : Type 0} where
     pub gate : held.1 < half_end layout side
 
   -- every image of the disk is on this side, with this image of a register and these records
-  abbrev pub EachIsOnSide : View → Layout → Side → Form → Base → Held A → Type 0
+  abbrev pub EachIsOnSide : View → Layout → Side → Form → Base → RecordsAndGate A → Type 0
   EachIsOnSide disk layout side form base held = InEach disk (IsOnSide layout side form base held)
 
   -- in every image of the disk this side is ready (`IsReady`), with this image of a register and these records
-  abbrev pub EachIsReady : View → Layout → Side → Form → Base → Held A → Type 0
+  abbrev pub EachIsReady : View → Layout → Side → Form → Base → RecordsAndGate A → Type 0
   EachIsReady disk layout side form base held = InEach disk (IsReady layout side form base held)
 
   -- the image is on the current side with `base` and the records `held`, or on the other one with `next` and the records `more`
-  abbrev pub IsEither : Layout → Side → Form → Form → Base → Base → Held A → Held A → List (List Byte) → Type 0
+  abbrev pub IsEither : Layout → Side → Form → Form → Base → Base → RecordsAndGate A → RecordsAndGate A → List (List Byte) → Type 0
   IsEither layout current form also base next held more image =
       IsOnSide layout current form base held image ⊎ IsOnSide layout (other_of current) also next more image
 
@@ -148,7 +148,7 @@ HasFreshImage A layout side base disk = EachIsReady {A = A} disk layout side Num
 -- records. Then a stop at any moment from old to new leaves the disk on this side, with that register and these records.
 abbrev pub KeepsSide : Type 0 → Layout → Side → View → View → Type 0
 KeepsSide A layout side old new =
-    (form : Form) (base : Base) (held : Held A) → old.honest → EachIsOnSide old layout side form base held
+    (form : Form) (base : Base) (held : RecordsAndGate A) → old.honest → EachIsOnSide old layout side form base held
     → LeavesOnly old new (IsOnSide layout side form base held)
 
 -- Suppose that old is honest, that each of its images is on this side, and that in each the other side is ready (`IsReady`)
@@ -156,12 +156,12 @@ KeepsSide A layout side old new =
 -- register and the records that it had in old.
 abbrev pub KeepsEitherSide : Type 0 → Layout → Side → View → View → Type 0
 KeepsEitherSide A layout side old new =
-    (form also : Form) (base next : Base) (held more : Held A) → base.0 < next.0 → old.honest → EachIsOnSide old layout side form base held
+    (form also : Form) (base next : Base) (held more : RecordsAndGate A) → base.0 < next.0 → old.honest → EachIsOnSide old layout side form base held
     → EachIsReady old layout (other_of side) also next more → LeavesOnly old new (IsEither layout side form also base next held more)
 
 -- Suppose that old is honest, that each of its images is on this side, and that in each the other side is ready (`IsReady`)
 -- with a greater epoch. Then each image of new is on the other side, with the register and the records that the other side had in old.
 abbrev pub ChangesSide : Type 0 → Layout → Side → View → View → Type 0
 ChangesSide A layout side old new =
-    (form also : Form) (base next : Base) (held more : Held A) → base.0 < next.0 → old.honest → EachIsOnSide old layout side form base held
+    (form also : Form) (base next : Base) (held more : RecordsAndGate A) → base.0 < next.0 → old.honest → EachIsOnSide old layout side form base held
     → EachIsReady old layout (other_of side) also next more → EachIsOnSide new layout (other_of side) also next more

@@ -16,7 +16,7 @@ use Rattle.checkpoint.specs.Layout.{slot_at}
 use Rattle.checkpoint.specs.OnSide.{Base}
 use Rattle.checkpoint.specs.Writing.{WritesRows}
 use Rattle.checkpoint.specs.declared.layout.Layout.{Layout}
-use Rattle.checkpoint.specs.declared.progress.Progress.{Progress}
+use Rattle.checkpoint.specs.declared.progress.ImageProgress.{ImageProgress}
 use Rattle.checkpoint.specs.declared.side.Side.{Side}
 
 -- the most rows that one call writes
@@ -25,7 +25,7 @@ most_rows = 8
 
 -- The progress fits the image of this register and epoch. `written` is no more than the number of rows that the image has. The rows
 -- of the register after the place `last` are the rows of the image after the first `written` ones.
-pub record IsProgress (epoch : Epoch) (state : State) (progress : Progress) : Type 0 where
+pub record IsProgress (epoch : Epoch) (state : State) (progress : ImageProgress) : Type 0 where
   pub few : progress.written ≤ length (rows_of epoch state)
   pub on : one_by_one (row_after epoch state) place_of (length (rows_of epoch state) + 1 - progress.written) progress.last
       ≡ drop progress.written (rows_of epoch state)
@@ -55,5 +55,5 @@ abbrev pub WritesNextAt : View → View → Sector → Base → ℕ → Result U
 WritesNextAt old new at base written result = WritesRows old new (at + written) (next_rows base.0 base.1 written) (next_row base written) result
 
 -- what a call does that writes the next rows, after those that `progress` counts, to the slot of a side (`WritesRows`)
-abbrev pub WritesNext : View → View → Layout → Side → State → Progress → Result Unit DiskError → Type 0
+abbrev pub WritesNext : View → View → Layout → Side → State → ImageProgress → Result Unit DiskError → Type 0
 WritesNext old new layout side register progress result = WritesNextAt old new (slot_at layout side) (progress.epoch, register) progress.written result

@@ -20,7 +20,7 @@ pub use fault::CheckpointError;
 pub use form::stated_form;
 pub use image::{write_image, write_rows};
 pub use layout::Layout;
-pub use progress::{Progress, write_next_rows};
+pub use progress::{ImageProgress, write_next_rows};
 pub use read_fault::ReadFault;
 pub use reading::read_image;
 pub use side::Side;

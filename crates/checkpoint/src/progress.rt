@@ -16,21 +16,21 @@ const MOST_ROWS: u64 = 8;
 
 /// How far the image of a register is written: its epoch, how many of its rows are written, and the place of the last row written.
 #[derive(Clone, Copy, Debug, Drop)]
-pub struct Progress {
+pub struct ImageProgress {
     pub(crate) epoch: u64,
     pub(crate) written: u64,
     pub(crate) last: Option<RowPlace>,
 }
 
-impl Progress {
+impl ImageProgress {
     /// The progress before the first row: no row of the register's image with this epoch is written yet.
-    pub fn begun<A: Allocator + Clone>(epoch: u64, register: &Register<A>) -> Progress
+    pub fn begun<A: Allocator + Clone>(epoch: u64, register: &Register<A>) -> ImageProgress
         ensures epoch { result.epoch ≡ epoch }
         ensures none { result.written ≡ 0 }
         ensures begun { IsProgress epoch register.now result }
     {
         centre_core::laws::registers(register);
-        Progress {
+        ImageProgress {
             epoch,
             written: 0,
             last: None,
@@ -59,7 +59,7 @@ fn put_rows<A: Allocator + Clone, D: Disk>(
     at: u64,
     epoch: u64,
     register: &Register<A>,
-    progress: &mut Progress,
+    progress: &mut ImageProgress,
 ) -> Result<(), DiskError>
     requires room { at + length (rows_of epoch register.now) ≤ (D.view disk.old).sectors }
     requires fits { at + length (rows_of epoch register.now) < 2 ^ 64 }
@@ -93,7 +93,7 @@ pub fn write_next_rows<A: Allocator + Clone, D: Disk>(
     layout: &Layout,
     current: Side,
     register: &Register<A>,
-    progress: &mut Progress,
+    progress: &mut ImageProgress,
 ) -> Result<(), DiskError>
     requires fits { HasRoomFor layout.now register.now (D.view disk.old) }
     requires begun { IsProgress progress.old.epoch register.now progress.old }

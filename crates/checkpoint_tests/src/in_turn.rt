@@ -6,7 +6,7 @@ use crate::made::{
     begun, current_epoch, expiry, formatted_for, layout, sixteen_rules, turn, write,
 };
 use centre_core::{Command, Register};
-use checkpoint::{Layout, Progress, Side, write_next_rows};
+use checkpoint::{ImageProgress, Layout, Side, write_next_rows};
 use gated_journal::{Form, Journal, Place};
 use sector_disk::{Disk, DiskError, Failing, FailingDisk, MemoryDisk};
 use std::alloc::{AllocError, Global};
@@ -16,7 +16,7 @@ fn next<D: Disk>(
     disk: &mut D,
     layout: &Layout,
     register: &Register<Global>,
-    progress: &mut Progress,
+    progress: &mut ImageProgress,
 ) -> Option<u64>
     requires { IsProgress progress.old.epoch register.now progress.old }
     ensures { IsProgress progress.new.epoch register.now progress.new }
@@ -35,7 +35,7 @@ fn in_three_calls<D: Disk>(
     layout: &Layout,
     register: &Register<Global>,
 ) -> Option<[u64; 3]> {
-    let mut progress = Progress::begun(2, register);
+    let mut progress = ImageProgress::begun(2, register);
     let first = next(disk, layout, register, &mut progress)?;
     let second = next(disk, layout, register, &mut progress)?;
     let before = progress.is_whole(register);

@@ -53,7 +53,7 @@ pub fn first<A: Allocator>(bytes: &[u8]) -> Option<(ReadCommand<'_>, &[u8])>
 }
 
 /// The command that the bytes are, all of them.
-pub fn whole<A: Allocator>(bytes: &[u8]) -> Option<ReadCommand<'_>>
+pub fn read_whole<A: Allocator>(bytes: &[u8]) -> Option<ReadCommand<'_>>
     ensures exact { option_map (λ c. command_view {A = A} c) result ≡ command_of bytes.now }
     ensures above { IfSome result (λ c. 0 < c.sequence) }
 {

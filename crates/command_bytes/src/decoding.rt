@@ -6,7 +6,7 @@ ghost use Rattle.command_bytes.specs.Reading.{command_of, first_command, pdu_in}
 ghost use Rattle.command_bytes.specs.Text.{Spells};
 ghost use Rattle.identity.specs.Packed.{AreBytes};
 
-use crate::command::{first, whole};
+use crate::command::{first, read_whole};
 use centre_core::Command;
 use std::alloc::{AllocError, Allocator};
 
@@ -35,12 +35,12 @@ pub fn after_first<A: Allocator>(bytes: &[u8]) -> Option<&[u8]>
 }
 
 // `decode`, with clauses that cite the definition that reads.
-fn decoded<A: Allocator>(alloc: A, bytes: &[u8]) -> Result<Option<Command<A>>, AllocError>
+fn decode_whole<A: Allocator>(alloc: A, bytes: &[u8]) -> Result<Option<Command<A>>, AllocError>
     ensures exact { IfOk result (λ found. found ≡ command_of bytes.now) }
     ensures memory { OnErr result (IsSome (pdu_in (command_of {A = A} bytes.now))) }
     ensures are { AreBytes bytes.now }
 {
-    let Some(found) = whole::<A>(bytes) else {
+    let Some(found) = read_whole::<A>(bytes) else {
         return Ok(None);
     };
     Ok(Some(found.copy(alloc)?))
@@ -56,5 +56,5 @@ pub fn decode<A: Allocator>(alloc: A, bytes: &[u8]) -> Result<Option<Command<A>>
     ensures memory { OnErr result ((command : Asked A) × Spells command bytes.now × IsSome (pdu_of command.body)) }
     ensures exact { IfOk result (λ found. found ≡ command_of bytes.now) }
 {
-    decoded(alloc, bytes)
+    decode_whole(alloc, bytes)
 }

@@ -6,7 +6,7 @@ ghost use Rattle.command_bytes.specs.Fields.{big, bytes_for};
 ghost use Rattle.command_bytes.specs.Inside.Sizes.{body_size};
 ghost use Rattle.command_bytes.specs.Text.{IsCommand, Spells, body_text, command_text, longest, tag_of};
 
-use crate::Room;
+use crate::ByteSink;
 use crate::put::{put_bits, put_key, put_number, put_prefix, put_rule};
 use centre_core::{Body, Command};
 use std::alloc::{AllocError, Allocator};
@@ -50,7 +50,7 @@ fn body_len<A: Allocator>(body: &Body<A>) -> usize
 }
 
 #[tactic(auto, using(std::proofs::Common::append_assoc, crate::proofs::Sizes::nothing))]
-fn put_body<R: Room, B: Allocator>(out: &mut R, body: &Body<B>)
+fn put_body<R: ByteSink, B: Allocator>(out: &mut R, body: &Body<B>)
     requires range { BodyInRange body.now }
     requires room { body_size body.now ≤ R.room out.old }
     ensures held { R.held out.new ≡ R.held out.old ++ body_text body.now }
@@ -92,12 +92,12 @@ pub fn text_len<A: Allocator>(command: &Command<A>) -> usize
     ensures value { result ≡ length (command_text command.now) }
     ensures most { result ≤ longest }
 {
-    hold_ranges(command);
+    facts_of_ranges(command);
     11 + body_len(&command.body)
 }
 
 // Does nothing. Its clause names the ranges that the types of the fields keep.
-fn hold_ranges<A: Allocator>(command: &Command<A>)
+fn facts_of_ranges<A: Allocator>(command: &Command<A>)
     ensures { IsCommand command.now }
 {
     let _station = command.station.number();
@@ -127,13 +127,13 @@ fn head_of<A: Allocator>(command: &Command<A>) -> [u8; 11]
 
 /// Appends the command's text to what has room for it. It never allocates.
 #[tactic(auto, unfolding(crate::specs::Text::command_text), using(std::proofs::Common::append_assoc, crate::proofs::Sizes::command_size))]
-pub fn append<R: Room, B: Allocator>(out: &mut R, command: &Command<B>)
+pub fn append<R: ByteSink, B: Allocator>(out: &mut R, command: &Command<B>)
     requires room { length (command_text command.now) ≤ R.room out.old }
     ensures held { R.held out.new ≡ R.held out.old ++ command_text command.now }
     ensures room { R.room out.old ≤ R.room out.new + length (command_text command.now) }
     ensures is_command { IsCommand command.now }
 {
-    hold_ranges(command);
+    facts_of_ranges(command);
     out.put(&head_of(command));
     put_body(out, &command.body);
 }

@@ -18,4 +18,4 @@ mod room;
 pub use decoding::{after_first, decode, decode_first};
 pub use encoding::{append, encode, text_len};
 pub use fields::number;
-pub use room::Room;
+pub use room::ByteSink;

@@ -4,14 +4,14 @@ ghost use Rattle.identity.specs.BitsText.{most_bits};
 ghost use Rattle.command_bytes.specs.Fields.{big, bytes_for};
 ghost use Rattle.command_bytes.specs.Text.{bits_text, key_text, kind_number, prefix_text, rule_text};
 
-use crate::Room;
+use crate::ByteSink;
 use identity::{Bits, Prefix};
 use mailbox::{Key, Kind};
 use registration::Rule;
 use std::alloc::Allocator;
 
 /// A number in `width` bytes, at most 8, the highest first.
-pub fn put_number<R: Room>(out: &mut R, width: usize, number: u64)
+pub fn put_number<R: ByteSink>(out: &mut R, width: usize, number: u64)
     requires width { width ≤ 8 }
     requires room { width ≤ R.room out.old }
     ensures held { R.held out.new ≡ R.held out.old ++ big width number }
@@ -22,7 +22,7 @@ pub fn put_number<R: Room>(out: &mut R, width: usize, number: u64)
 
 /// A prefix, in 7 bytes.
 #[tactic(auto, using(std::proofs::Common::append_assoc, crate::proofs::Putting::prefix_bits))]
-pub fn put_prefix<R: Room>(out: &mut R, prefix: &Prefix)
+pub fn put_prefix<R: ByteSink>(out: &mut R, prefix: &Prefix)
     requires room { 7 ≤ R.room out.old }
     ensures held { R.held out.new ≡ R.held out.old ++ prefix_text prefix.now }
     ensures room { R.room out.old ≤ R.room out.new + 7 }
@@ -33,7 +33,7 @@ pub fn put_prefix<R: Room>(out: &mut R, prefix: &Prefix)
 
 /// A rule, in 9 bytes.
 #[tactic(auto, using(std::proofs::Common::append_assoc))]
-pub fn put_rule<R: Room>(out: &mut R, rule: &Rule)
+pub fn put_rule<R: ByteSink>(out: &mut R, rule: &Rule)
     requires room { 9 ≤ R.room out.old }
     ensures held { R.held out.new ≡ R.held out.old ++ rule_text rule.now }
     ensures room { R.room out.old ≤ R.room out.new + 9 }
@@ -55,7 +55,7 @@ fn number_of(kind: Kind) -> u64
 
 /// A key, in 14 bytes.
 #[tactic(auto, using(std::proofs::Common::append_assoc))]
-pub fn put_key<R: Room>(out: &mut R, key: &Key)
+pub fn put_key<R: ByteSink>(out: &mut R, key: &Key)
     requires room { 14 ≤ R.room out.old }
     ensures held { R.held out.new ≡ R.held out.old ++ key_text key.now }
     ensures room { R.room out.old ≤ R.room out.new + 14 }
@@ -68,7 +68,7 @@ pub fn put_key<R: Room>(out: &mut R, key: &Key)
 
 /// A string of at most 2,048 bits: its length in 2 bytes, then the bits.
 #[tactic(auto, using(std::proofs::Common::append_assoc))]
-pub fn put_bits<R: Room, B: Allocator>(out: &mut R, bits: &Bits<B>)
+pub fn put_bits<R: ByteSink, B: Allocator>(out: &mut R, bits: &Bits<B>)
     requires few { length bits.now ≤ most_bits }
     requires room { 2 + bytes_for (length bits.now) ≤ R.room out.old }
     ensures held { R.held out.new ≡ R.held out.old ++ bits_text bits.now }

@@ -5,7 +5,7 @@ ghost use Rattle.identity.specs.Packed.{AreBytes};
 use std::alloc::Allocator;
 
 /// What bytes are appended to, where it has room for them. No call allocates.
-pub trait Room {
+pub trait ByteSink {
     /// The bytes that it holds.
     ghost held: { Self → List ℕ };
 
@@ -20,7 +20,7 @@ pub trait Room {
         ensures are { AreBytes bytes.now };
 }
 
-impl<A: Allocator> Room for Vec<u8, A> {
+impl<A: Allocator> ByteSink for Vec<u8, A> {
     ghost held = { λ v. v.items };
 
     ghost room = { λ v. vec_capacity v - vec_len v };

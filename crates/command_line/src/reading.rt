@@ -52,14 +52,17 @@ fn requested<'a>(alloc: Global, matches: &ArgMatches<'a>) -> Result<Request<'a>,
     ensures refused { IfErr result (λ refusal. (refusal ≡ NoMemory)
         ⊎ ((refusal ≡ Missing) × (option_and_then spec.asked_of (subcommand_rows_of matches.now) ≡ None))) }
 {
-    match entered(alloc, matches)? {
+    match request_in(alloc, matches)? {
         Some(request) => Ok(request),
         None => Err(Refusal::Missing),
     }
 }
 
 /// The request of the subcommand that clap found; `None` where a word is missing.
-fn entered<'a>(alloc: Global, matches: &ArgMatches<'a>) -> Result<Option<Request<'a>>, AllocError>
+fn request_in<'a>(
+    alloc: Global,
+    matches: &ArgMatches<'a>,
+) -> Result<Option<Request<'a>>, AllocError>
     ensures { IfOk result (λ request. option_map spec.asked_by request ≡ option_and_then spec.asked_of (subcommand_rows_of matches.now)) }
 {
     match matches.subcommand() {

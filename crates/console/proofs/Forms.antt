@@ -25,7 +25,7 @@ use Rattle.console.specs.declared.form.BodyForm.{BodyForm}
 use Rattle.console.specs.declared.form.BodyForm.TheVariants as body_form
 use Rattle.console.specs.declared.line.Line.TheVariants.{Bad, Apply}
 use Rattle.console.specs.declared.line.LineFault.TheVariants.{Syntax}
-use Rattle.console.specs.Forms.{Row, forms, form_in, form_of, keyword, word}
+use Rattle.console.specs.Forms.{FormRow, forms, form_in, form_of, keyword, word}
 use Rattle.console.specs.Inside.Counts.{count_of}
 use Rattle.console.specs.Reading.{identity_in, area_in, prefix_in, key_in, rule_in, pdu_in, mm_body, sds_body, group_sds_body, rule_body, body_in}
 use Rattle.console.specs.Reading.{command_of, line_of, by_form, of_words, sequence_of, GivesLongPdu}
@@ -40,7 +40,7 @@ chain P false form rest first others = others
 another_count : (count n : ℕ) → 8 < n → nat_le count 8 ≡ true → (count == n) ≡ false
 another_count count n many few = grind (arith, many, few)
 
-no_row : (rows : List Row) (name : List ℕ) (n : ℕ) → 8 < n → list_all (λ row. nat_le row.count 8) rows ≡ true → form_in rows name n ≡ None
+no_row : (rows : List FormRow) (name : List ℕ) (n : ℕ) → 8 < n → list_all (λ row. nat_le row.count 8) rows ≡ true → form_in rows name n ≡ None
 no_row [] name n many few = refl
 no_row (row ∷ rows) name n many few =
     let other = another_count row.count n many (first_true (nat_le row.count 8) (list_all (λ row. nat_le row.count 8) rows) few) in
@@ -54,13 +54,13 @@ abbrev count_in : Option Form → ℕ
 count_in None = 0
 count_in (Some form) = count_of form
 
-counted_row : (row : Row) (n : ℕ) (form : Form) → (row.count == n) ≡ true → (row.count == count_of row.form) ≡ true → Some row.form ≡ Some form → n ≡ count_of form
+counted_row : (row : FormRow) (n : ℕ) (form : Form) → (row.count == n) ≡ true → (row.count == count_of row.form) ≡ true → Some row.form ≡ Some form → n ≡ count_of form
 counted_row row n form here fits same =
     let count : row.count ≡ n = grind (arith, nat_tests, here) in
     let its : row.count ≡ count_of row.form = grind (arith, nat_tests, fits) in
     sym count ∙ its ∙ ap count_in same
 
-counted_in : (rows : List Row) (name : List ℕ) (n : ℕ) (form : Form) → list_all (λ row. row.count == count_of row.form) rows ≡ true → form_in rows name n ≡ Some form → n ≡ count_of form
+counted_in : (rows : List FormRow) (name : List ℕ) (n : ℕ) (form : Form) → list_all (λ row. row.count == count_of row.form) rows ≡ true → form_in rows name n ≡ Some form → n ≡ count_of form
 counted_in [] name n form fit is = cc
 counted_in (row ∷ rows) name n form fit is =
     let fits = first_true (row.count == count_of row.form) (list_all (λ row. row.count == count_of row.form) rows) fit in

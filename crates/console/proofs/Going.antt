@@ -4,16 +4,16 @@ use Rattle.std.proofs.lemmas.List.{append-nil, length_push}
 use Rattle.std.proofs.lemmas.List.Elements.{All-append, All-nil}
 use Rattle.std.specs.Prelude.{All, ◌==◌}
 use Rattle.std.specs.Str.Lines.{lines, strip_carriage_return}
-use Rattle.console.specs.declared.progress.Progress.{Progress}
+use Rattle.console.specs.declared.progress.LineProgress.{LineProgress}
 use Rattle.console.specs.declared.running.Ran.{Ran}
 use Rattle.console.specs.declared.running.RunFault.{RunFault}
-use Rattle.console.specs.declared.serving.Run.{Run}
+use Rattle.console.specs.declared.serving.LineRun.{LineRun}
 use Rattle.console.specs.declared.answer.Answer.{Answer}
 use Rattle.console.specs.Answer.{text, texts, is_trouble}
 use Rattle.desk.specs.Rules.{Rules}
 use Rattle.console.specs.Dialogue.{Answers, Dialogue}
 use Rattle.console.specs.Runs.{Start}
-use Rattle.console.specs.Inside.Feed.{HasEnded, Reached, IsGoing, IsCounted, IsSameRun, Sends, SendsPart}
+use Rattle.console.specs.Inside.Feed.{HasEnded, Reached, IsGoing, CountsAnswer, IsSameRun, Sends, SendsPart}
 use Rattle.console.specs.Inside.Passing.{Passes, Sent}
 use Rattle.console.specs.Inside.Current.{HasNoEnd, Holds, IsGivenFor}
 use Rattle.console.specs.Inside.Given.{IsTextFor}
@@ -71,7 +71,7 @@ module _ {A W : Type 0} (rules : Rules A W) (start : Start W) (begun : Sent) whe
 
   -- bytes and a line feed, once the line that they end is answered
   pub going_line : (taken : List ℕ) (old new : Reached A W) (run : List ℕ) (a : Answer A) (i : IsGoing rules start begun taken old) →
-      HasNoEnd run → new.speaker ≡ old.speaker → IsCounted old.progress a new.progress →
+      HasNoEnd run → new.speaker ≡ old.speaker → CountsAnswer old.progress a new.progress →
       Answers rules old.speaker (old.progress.lines + 1) old.world (strip_carriage_return (i.line ++ run)) a new.world →
       Passes old.written new.written [] (text a) [] →
       IsGoing rules start begun (taken ++ (run ++ 10 ∷ [])) new
@@ -121,7 +121,7 @@ module _ {A W : Type 0} (rules : Rules A W) (start : Start W) (begun : Sent) whe
 
   -- the end of the text, once its last line is answered
   pub ends_within : (taken : List ℕ) (old new : Reached A W) (ran : Ran) (a : Answer A) (i : IsGoing rules start begun taken old) → 0 < length i.line →
-      IsCounted old.progress a new.progress → ran.lines ≡ new.progress.lines → ran.troubled ≡ new.progress.troubled →
+      CountsAnswer old.progress a new.progress → ran.lines ≡ new.progress.lines → ran.troubled ≡ new.progress.troubled →
       Answers rules old.speaker (old.progress.lines + 1) old.world i.line a new.world → Passes old.written new.written [] (text a) [] →
       HasEnded rules start begun taken new.written new.world (Ok ran)
   ends_within taken old new ran a i some counted counts troubled_is answers passed =
@@ -180,7 +180,7 @@ module _ {A W : Type 0} (rules : Rules A W) (start : Start W) (begun : Sent) whe
       (still_passes begun []) still
 
   -- bytes that end no line
-  pub going_more : (taken : List ℕ) (old : Reached A W) (progress : Progress A) (run : List ℕ) → HasNoEnd run → progress.lines ≡ old.progress.lines → progress.troubled ≡ old.progress.troubled →
+  pub going_more : (taken : List ℕ) (old : Reached A W) (progress : LineProgress A) (run : List ℕ) → HasNoEnd run → progress.lines ≡ old.progress.lines → progress.troubled ≡ old.progress.troubled →
       ((line : List ℕ) → Holds old.progress.current.bytes.items old.progress.current.long line → Holds progress.current.bytes.items progress.current.long (line ++ run)) →
       IsGoing rules start begun taken old → IsGoing rules start begun (taken ++ run) (record { speaker = old.speaker; progress = progress; world = old.world; written = old.written })
   going_more taken old progress run plain counts troubled adds i = record {
@@ -202,7 +202,7 @@ module _ {A W : Type 0} (rules : Rules A W) (start : Start W) (begun : Sent) whe
   going_same taken other now same i = subst (λ (text : List ℕ). IsGoing rules start begun text now) same i
 
 -- what stays the run that it was at two calls stays so at both
-pub still_same : {A W G D : Type 0} (old mid new : Run A W G D) → IsSameRun old mid → IsSameRun mid new → IsSameRun old new
+pub still_same : {A W G D : Type 0} (old mid new : LineRun A W G D) → IsSameRun old mid → IsSameRun mid new → IsSameRun old new
 still_same old mid new was kept = record {
   terms = kept.terms ∙ was.terms;
   progress = kept.progress ∙ was.progress;

@@ -9,17 +9,17 @@ use Rattle.console.specs.declared.form.QueryForm.TheVariants.{Whereabouts, Look,
 use Rattle.console.specs.declared.form.ListingForm.TheVariants.{Rules, Radios, RadiosUnder, Items, Due, WaitingAt, Last, Room, Dump}
 
 -- lines with this keyword and so many words have this form
-pub record Row : Type 0 where
+pub record FormRow : Type 0 where
   pub keyword : List Byte
   pub count : ℕ
   pub form : Form
 
 -- the row of this keyword, so many words and this form
-abbrev pub row : List Byte → ℕ → Form → Row
+abbrev pub row : List Byte → ℕ → Form → FormRow
 row keyword count form = record { keyword = keyword; count = count; form = form }
 
 -- all forms. The words of a command are counted with its sequence and moment
-abbrev pub forms : List Row
+abbrev pub forms : List FormRow
 forms =
     row (codes "mm") 6 (Apply Mm)
     ∷ row (codes "sds") 6 (Apply Sds)
@@ -50,7 +50,7 @@ forms =
     ∷ []
 
 -- the form of the row with this keyword and so many words
-abbrev pub form_in : List Row → List Byte → ℕ → Option Form
+abbrev pub form_in : List FormRow → List Byte → ℕ → Option Form
 form_in [] keyword count = None
 form_in (row ∷ rows) keyword count = if (row.count == count) && bytes_eq keyword row.keyword then Some row.form else form_in rows keyword count
 

@@ -8,7 +8,7 @@ ghost use Rattle.console.specs.Inside.Left.{bytes_left, words_in};
 use crate::body::{Head, body_in, head_in, listing_in, query_in};
 use crate::form::{BodyForm, Form, MOST_WORDS, Words, form_of};
 use crate::mark::Mark;
-use crate::spaces::{Rest, whole};
+use crate::spaces::{Rest, whole_line};
 use crate::split::{cut, next_word};
 use centre_core::{Body, Command, Query, Sequence};
 use listings::Listing;
@@ -97,7 +97,7 @@ fn read_text<A: Allocator>(alloc: A, station: Station, line: &[u8]) -> Result<Li
     ensures ok { IfOk result (λ said. said ≡ of_words station (words line.now)) }
     ensures err { IfErr result (λ unread. sequence_of (of_words {A = A} station (words line.now)) ≡ Some unread.sequence) }
 {
-    match whole(line) {
+    match whole_line(line) {
         Some(rest) => read_marked(alloc, station, rest),
         None => read_any(alloc, station, line),
     }
@@ -248,7 +248,7 @@ fn line_of_command<A: Allocator>(station: Station, head: Head, body: Body<A>) ->
 {
     let Head { sequence, moment } = head;
     let _head = (sequence.number(), moment.number());
-    hold_ranges(&body);
+    facts_of_ranges(&body);
     Line::Apply(Command {
         station,
         sequence,
@@ -259,7 +259,7 @@ fn line_of_command<A: Allocator>(station: Station, head: Head, body: Body<A>) ->
 
 // Does nothing. Its clause names the ranges that the types of the parts keep.
 #[inline(always)]
-fn hold_ranges<A: Allocator>(body: &Body<A>)
+fn facts_of_ranges<A: Allocator>(body: &Body<A>)
     requires { IsShort (pdu_of body.now) }
     ensures { BodyInRange body.now }
 {

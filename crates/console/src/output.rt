@@ -39,7 +39,7 @@ impl<'w, 'f, W: Write, G: Ledger> Output<'w, 'f, W, G> {
 
     /// Notes that an answer is given, with this text.
     #[inline(always)]
-    pub(crate) fn answered(&mut self, text: &[u8])
+    pub(crate) fn note_answer(&mut self, text: &[u8])
         ensures writer { self.new.writer.ghost_name ≡ self.old.writer.ghost_name }
         ensures failures { self.new.failures.ghost_name ≡ self.old.failures.ghost_name }
         ensures events { self.new.events.list ≡ self.old.events.list ++ Answered text.now ∷ [] }

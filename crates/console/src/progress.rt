@@ -91,7 +91,7 @@ impl<A: Allocator> CurrentLine<A> {
     /// The line that ends in these bytes and a line feed. `join` was called with these bytes before. `None` if it is
     /// too long.
     #[inline(always)]
-    pub(crate) fn ended<'a>(&'a self, run: &'a [u8]) -> Option<&'a [u8]>
+    pub(crate) fn end_line<'a>(&'a self, run: &'a [u8]) -> Option<&'a [u8]>
         ensures { (line : List ℕ) → HoldsWith self.now.bytes.items self.now.long line run.now
             → KeepsLine (option_map (λ l. l.now) result) (strip_carriage_return (line ++ run.now)) }
     {
@@ -217,7 +217,7 @@ impl<A: Allocator + Copy> AnswerText<A> {
 
 /// How far a run has come.
 #[derive(Drop)]
-pub(crate) struct Progress<A: Allocator> {
+pub(crate) struct LineProgress<A: Allocator> {
     pub(crate) current: CurrentLine<A>,
     /// The text of the last answer.
     pub(crate) out: AnswerText<A>,
@@ -229,11 +229,11 @@ pub(crate) struct Progress<A: Allocator> {
     pub(crate) troubled: bool,
 }
 
-impl<A: Allocator + Copy> Progress<A> {
+impl<A: Allocator + Copy> LineProgress<A> {
     /// Takes memory for the current line, for 64 commands that are answered together, and for an answer of one line. A run takes
     /// no other memory for these, except for the PDUs of commands and replies.
     pub(crate) fn new(alloc: A) -> Result<Self, AllocError> {
-        Ok(Progress {
+        Ok(LineProgress {
             current: CurrentLine::new(alloc)?,
             out: AnswerText::new(alloc)?,
             together: Together::new(alloc)?,

@@ -8,8 +8,8 @@ use crate::figures::ServiceFigures;
 use crate::input::Input;
 use crate::output::Output;
 use crate::passed::Passed;
-use crate::progress::Progress;
-use crate::serving::Run;
+use crate::progress::LineProgress;
+use crate::serving::LineRun;
 use base::Steps;
 use desk::Desk;
 use registration::Station;
@@ -108,10 +108,10 @@ pub fn run_counted<
     ensures writer { output.new.writer.ghost_name ≡ output.old.writer.ghost_name }
     ensures failures { output.new.failures.ghost_name ≡ output.old.failures.ghost_name }
 {
-    let Ok(mut progress) = Progress::new(terms.alloc) else {
+    let Ok(mut progress) = LineProgress::new(terms.alloc) else {
         return Err(RunFault::NoMemory);
     };
-    let mut run = Run {
+    let mut run = LineRun {
         terms: &terms,
         service,
         progress: &mut progress,

@@ -19,7 +19,7 @@ use crate::hearing::hear_line;
 use crate::input::Input;
 use crate::line::{Line, LineFault};
 use crate::output::Output;
-use crate::progress::{AnswerText, Given, Progress};
+use crate::progress::{AnswerText, Given, LineProgress};
 use crate::running::{Piece, Ran, RunFault, Terms};
 use desk::{Desk, Outage};
 use std::alloc::Allocator;
@@ -86,7 +86,7 @@ fn answer_line<A: Allocator + Copy, D: Desk<A>>(
 /// Writes the answer to the current line, and counts the line.
 #[inline(always)]
 fn send_answer<A: Allocator + Copy + Drop, W: Write, G: Ledger>(
-    progress: &mut Progress<A>,
+    progress: &mut LineProgress<A>,
     given: &Given<A>,
     output: &mut Output<W, G>,
 ) -> Result<(), RunFault>
@@ -104,7 +104,7 @@ fn send_answer<A: Allocator + Copy + Drop, W: Write, G: Ledger>(
 {
     let number = progress.lines + 1;
     let troubled = progress.out.hold(number, given);
-    output.answered(progress.out.as_slice());
+    output.note_answer(progress.out.as_slice());
     output.send(progress.out.as_slice())?;
     progress.out.free();
     progress.lines = number;
@@ -115,7 +115,7 @@ fn send_answer<A: Allocator + Copy + Drop, W: Write, G: Ledger>(
 
 /// A run: its terms, how far it has come, the writer of its answers, and the desk that it asks.
 #[derive(Drop)]
-pub(crate) struct Run<
+pub(crate) struct LineRun<
     't,
     's,
     'p,
@@ -131,12 +131,12 @@ pub(crate) struct Run<
     pub(crate) terms: &'t Terms<A>,
     /// The figures of the service that the station is one of.
     pub(crate) service: &'s ServiceFigures,
-    pub(crate) progress: &'p mut Progress<A>,
+    pub(crate) progress: &'p mut LineProgress<A>,
     pub(crate) output: &'o mut Output<'w, 'f, W, G>,
     pub(crate) desk: &'d mut D,
 }
 
-impl<'t, 's, 'p, 'o, 'd, 'w, 'f, A: Allocator + Copy + Drop, W: Write, G: Ledger, D: Desk<A>> Run<
+impl<
     't,
     's,
     'p,
@@ -144,11 +144,11 @@ impl<'t, 's, 'p, 'o, 'd, 'w, 'f, A: Allocator + Copy + Drop, W: Write, G: Ledger
     'd,
     'w,
     'f,
-    A,
-    W,
-    G,
-    D,
-> {
+    A: Allocator + Copy + Drop,
+    W: Write,
+    G: Ledger,
+    D: Desk<A>,
+> LineRun<'t, 's, 'p, 'o, 'd, 'w, 'f, A, W, G, D> {
     /// Takes bytes and the line feed after them, and answers the line that they end.
     #[inline(always)]
     fn take_line(&mut self, run: &[u8]) -> Result<(), RunFault>
@@ -166,7 +166,7 @@ impl<'t, 's, 'p, 'o, 'd, 'w, 'f, A: Allocator + Copy + Drop, W: Write, G: Ledger
         progress.current.join(run);
         let asked = Asked {
             number: progress.lines + 1,
-            line: progress.current.ended(run),
+            line: progress.current.end_line(run),
         };
         let given = answer_line(
             self.terms,

@@ -81,7 +81,7 @@ pub(crate) struct Rest<'a> {
 
 /// A whole line, if it has 16 to 64 bytes; else none.
 #[inline(always)]
-pub(crate) fn whole(line: &[u8]) -> Option<Rest<'_>>
+pub(crate) fn whole_line(line: &[u8]) -> Option<Rest<'_>>
     ensures { MatchOption result ((length line.now < 16) ⊎ (64 < length line.now)) (λ rest. (rest.line.now ≡ line.now) × (rest.start ≡ 0)) }
 {
     if line.len() < 16 || line.len() > 64 {

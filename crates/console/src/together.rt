@@ -85,7 +85,7 @@ fn give_result<A: Allocator, B: Allocator, W: Write, G: Ledger>(
 {
     let before = page.len();
     let troubled = put_result(page, command, reply);
-    output.answered(&page[before..]);
+    output.note_answer(&page[before..]);
     troubled
 }
 

@@ -22,15 +22,15 @@ pub record Stored : Type 0 where
   pub last : Bool
 
 -- the disk has failed in between, or the count of its failures is at its maximum
-abbrev pub HasFailed : Stored → Stored → Type 0
-HasFailed s t = (s.failures < t.failures) ⊎ (t.failures ≡ 2 ^ 64 - 1)
+abbrev pub StoreHasFailed : Stored → Stored → Type 0
+StoreHasFailed s t = (s.failures < t.failures) ⊎ (t.failures ≡ 2 ^ 64 - 1)
 
 -- Why a command gets no reply: it needs memory, and memory runs out; the disk fails, which breaks the store; the store is
 -- broken; or the epochs are used up. It is never closed. The register stays as it was. Where the disk failed, the command
 -- may be on it all the same; opening the disk shows it.
 abbrev pub Refuses : {A : Type 0} → Stored → Command A → Outage → Stored → Type 0
 Refuses s c Memory t = (s.broken ≡ false) × (t.broken ≡ false) × (t.register ≡ s.register) × IsTrue (needs_memory s.register c)
-Refuses s c Device t = (s.broken ≡ false) × (t.broken ≡ true) × (t.register ≡ s.register) × HasFailed s t
+Refuses s c Device t = (s.broken ≡ false) × (t.broken ≡ true) × (t.register ≡ s.register) × StoreHasFailed s t
 Refuses s c Broken t = (s.broken ≡ true) × (t ≡ s)
 Refuses s c Epochs t = (s.broken ≡ false) × (s.last ≡ true) × (t ≡ s)
 Refuses s c Closed t = ⊥

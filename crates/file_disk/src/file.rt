@@ -61,7 +61,7 @@ pub trait SectorFile: Drop {
 }
 
 // How many bytes a call moved: none where it was interrupted. No byte without an interruption is a fault.
-pub(crate) fn moved(answer: io::Result<usize>) -> Result<usize, DiskError>
+pub(crate) fn bytes_moved(answer: io::Result<usize>) -> Result<usize, DiskError>
     ensures { result ≡ moved answer }
 {
     match answer {

@@ -2,7 +2,7 @@
 ghost use Rattle.std.specs.Prelude.{◌≡◌, ◌^◌, ◌<◌};
 
 use crate::SectorFile;
-use crate::file::moved;
+use crate::file::bytes_moved;
 use std::fs::File;
 use std::io;
 use std::io::ErrorKind;
@@ -63,7 +63,7 @@ impl HostFile {
         ensures cause { HasCause (host_view self.old) (host_view self.new) (moved answer) }
     {
         self.turns = self.turns.saturating_add(1);
-        if moved(answer).is_err() {
+        if bytes_moved(answer).is_err() {
             self.failures = self.failures.saturating_add(1);
             self.last = kind_of(answer);
         }

@@ -4,7 +4,7 @@ ghost use Rattle.sector_disk.specs.Filling.{HasFilled, part_of, sectors_in};
 ghost use Rattle.file_disk.specs.File.{IsGivenUp};
 
 use crate::SectorFile;
-use crate::file::moved;
+use crate::file::bytes_moved;
 use crate::whole::write_sector;
 use sector_disk::{DiskError, sector_in};
 
@@ -42,7 +42,7 @@ pub(crate) fn write_sectors<F: SectorFile>(
     if bytes.len() <= 512 {
         return write_each(file, at, bytes);
     }
-    let written = moved(file.write_at(bytes, 512 * at))?;
+    let written = bytes_moved(file.write_at(bytes, 512 * at))?;
     if written == bytes.len() {
         return Ok(());
     }

@@ -5,7 +5,7 @@ ghost use Rattle.sector_disk.specs.declared.disk.DiskError.TheVariants.{DiskFaul
 ghost use Rattle.file_disk.specs.File.{HasReadPart, HasWrittenPart, HasGivenUp, most_calls, one_more};
 
 use crate::SectorFile;
-use crate::file::moved;
+use crate::file::bytes_moved;
 use sector_disk::DiskError;
 
 // The most calls of the file for one sector.
@@ -27,7 +27,7 @@ fn read_more<F: SectorFile>(
     ensures fault { IfErr result (λ e. e ≡ DiskFault) }
     ensures turns { F.turns file.new ≡ one_more (F.turns file.old) }
 {
-    moved(file.read_at(&mut bytes[done..], 512 * at + done as u64))
+    bytes_moved(file.read_at(&mut bytes[done..], 512 * at + done as u64))
 }
 
 // Makes one call, for the bytes that are not written yet.
@@ -45,7 +45,7 @@ fn write_more<F: SectorFile>(
     ensures fault { IfErr result (λ e. e ≡ DiskFault) }
     ensures turns { F.turns file.new ≡ one_more (F.turns file.old) }
 {
-    moved(file.write_at(&bytes[done..], 512 * at + done as u64))
+    bytes_moved(file.write_at(&bytes[done..], 512 * at + done as u64))
 }
 
 pub(crate) fn read_sector<F: SectorFile>(

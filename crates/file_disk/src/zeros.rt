@@ -4,7 +4,7 @@ ghost use Rattle.sector_disk.specs.Filling.{HasFilled};
 ghost use Rattle.file_disk.specs.File.{IsGivenUp};
 
 use crate::SectorFile;
-use crate::file::moved;
+use crate::file::bytes_moved;
 use crate::whole::write_sector;
 use sector_disk::DiskError;
 
@@ -37,7 +37,7 @@ fn fill_piece<F: SectorFile>(file: &mut F, at: u64, zeros: &[u8]) -> Result<(), 
     ensures later { (F.view file.old).failures ≤ (F.view file.new).failures }
     ensures given_up { OnErr result (IsGivenUp F.view F.turns file.old file.new) }
 {
-    let written = moved(file.write_at(zeros, 512 * at))?;
+    let written = bytes_moved(file.write_at(zeros, 512 * at))?;
     if written == zeros.len() {
         return Ok(());
     }

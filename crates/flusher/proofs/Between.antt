@@ -25,7 +25,7 @@ use Rattle.flusher.specs.Rounds.{IsRound}
 use Rattle.flusher.specs.Runs.{AreRounds, next, none}
 use Rattle.flusher.specs.Order.{AreInOrder}
 use Rattle.flusher.specs.Stored.{IsStoredFor, OpensBetween}
-use Rattle.flusher.specs.View.{FlusherView, Progress, progress_of}
+use Rattle.flusher.specs.View.{FlusherView, RoundProgress, progress_of}
 use Rattle.flusher.proofs.Batched.{commands_among-append}
 use Rattle.flusher.proofs.ByItself.{round_longer}
 use Rattle.flusher.proofs.Kept.{begun, keeps_self, later_failed, still}
@@ -35,7 +35,7 @@ G = Asked Global
 
 -- ---- what a round says of its store
 
-module _ {D : Type 0} (base : State) (t : ℕ) (f g : Progress D) (commands : List G) (answers : List Sent) where
+module _ {D : Type 0} (base : State) (t : ℕ) (f g : RoundProgress D) (commands : List G) (answers : List Sent) where
   idle_by : (broken : Bool) → broken ≡ true → AreServedBy base t f g commands answers broken → (g.store ≡ f.store) × (g.durable ≡ f.durable)
   idle_by true e h = (h.store, h.durable)
   idle_by false e h = absurd (true≢false (sym e))

@@ -15,7 +15,7 @@ use Rattle.flusher.specs.Stages.{Sent}
 use Rattle.flusher.specs.Shared.{commands_among}
 use Rattle.flusher.specs.Batches.{accepted_by}
 use Rattle.answers.specs.declared.channel.AnswerSender.{AnswerSender}
-use Rattle.flusher.specs.View.{FlusherView, Progress, progress_of}
+use Rattle.flusher.specs.View.{FlusherView, RoundProgress, progress_of}
 use Rattle.flusher.specs.Served.{AreServedBy, HasServed, decision_by}
 use Rattle.flusher.specs.Rounds.{IsRound}
 use Rattle.flusher.specs.Borne.{IsDecisionAfter, AreBorneOut, AreSentInOrder}
@@ -37,7 +37,7 @@ says_nothing base Unformatted l c = tt
 says_nothing base BadGeometry l c = tt
 says_nothing base (Damaged at) l c = tt
 
-module _ {D : Type 0} (base : State) (t : ℕ) (f g : Progress D) where
+module _ {D : Type 0} (base : State) (t : ℕ) (f g : RoundProgress D) where
   -- what a round adds to the durable commands: some of those that it took, in order; and with these each answer is borne out
   pub record HasAdded (commands : List G) (answers : List Sent) : Type 0 where
     pub more : List G

@@ -14,7 +14,7 @@ use Rattle.flusher.specs.Stages.{Sent}
 use Rattle.flusher.specs.View.{FlusherView}
 use Rattle.flusher.specs.Runs.{HasSameEnds}
 use Rattle.flusher.specs.Opened.{AreNewSessions}
-use Rattle.flusher.specs.Sessions.{HasOnlyRead, IsSameSession}
+use Rattle.flusher.specs.Sessions.{SessionHasOnlyRead, IsSameSession}
 use Rattle.flusher.specs.Closed.{AreOpenSessionsOf, AreSessionsOf, HasFinished, IsOpenSessionOf, IsSessionOf}
 
 zip_at : {X Y : Type 0} (R : X → Y → Type 0) (xs : List X) (ys : List Y) → AllZip R xs ys → (k : ℕ) (x : X) (y : Y) → slice_get xs k ≡ Some x → slice_get ys k ≡ Some y → R x y
@@ -38,7 +38,7 @@ module _ {J : Type 0} where
   }
 
   -- what only reads keeps the session as it is
-  pub read_same : (s t : Session J) → HasOnlyRead s t → IsSameSession s t
+  pub read_same : (s t : Session J) → SessionHasOnlyRead s t → IsSameSession s t
   read_same s t read = record {
     queue = ap (λ (x : Sending). x.queue) read.sender;
     station = ap (λ (x : Sending). x.station) read.sender;

@@ -26,7 +26,7 @@ use Rattle.flusher.specs.Served.{AreServedBy, IsSettled, decision_by}
 use Rattle.flusher.specs.Shared.{commands_among}
 use Rattle.flusher.specs.Since.{AreAllDurable, IsKeptSince, WasDurable}
 use Rattle.flusher.specs.Stored.{IsStoredFor, OpensBetween}
-use Rattle.flusher.specs.View.{FlusherView, Progress, progress_of}
+use Rattle.flusher.specs.View.{FlusherView, RoundProgress, progress_of}
 use Rattle.flusher.proofs.Between.{now_between, rounds_longer}
 use Rattle.flusher.proofs.Borne.{sent_first}
 use Rattle.flusher.proofs.Lasting.{rounds_of}
@@ -75,7 +75,7 @@ module _ (t : ℕ) where
   moments_alike published d [] = tt
   moments_alike published d (c ∷ cs) = (refl, moments_alike published d cs)
 
-  moments_served : {D : Type 0} (base : State) (f g : Progress D) (commands : List G) (answers : List Sent) (b : Bool) → AreServedBy base t f g commands answers b → AllByRecursion IsAt answers
+  moments_served : {D : Type 0} (base : State) (f g : RoundProgress D) (commands : List G) (answers : List Sent) (b : Bool) → AreServedBy base t f g commands answers b → AllByRecursion IsAt answers
   moments_served base f g commands answers true h = subst (λ l. AllByRecursion IsAt l) (sym h.each) (moments_alike g.published (decision.Fault Broken) commands)
   moments_served base f g commands answers false h = elim h [
     | inl done ↦ subst (λ l. AllByRecursion IsAt l) (sym done.each) (moments_by g.published done.all commands done.outcomes)

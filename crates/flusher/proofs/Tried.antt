@@ -7,7 +7,7 @@ use Rattle.sector_disk.specs.Disk.{HasFailed, View}
 use Rattle.centre_core.specs.Asked.{Asked}
 use Rattle.centre_core.specs.Same.{under}
 use Rattle.image_rows.specs.Rows.{last_epoch}
-use Rattle.gated_journal.specs.Record.{data_size, given, most_sectors, record_text}
+use Rattle.gated_journal.specs.Record.{data_size, given, most_data_sectors, record_text}
 use Rattle.gated_journal.specs.declared.form.Form.{Form}
 use Rattle.gated_journal.specs.declared.place.Place.{Place}
 use Rattle.command_bytes.specs.Text.{command_text, longest}
@@ -265,14 +265,14 @@ unready_is cmds old new (Err (Damaged at)) is h = absurd h
 
 -- a record of 64 commands at most takes so many sectors at most
 pub few_sectors : (cs : List (Bor G)) (size : ℕ) → length cs ≤ 64 → size ≡ length (flat_map (λ c. command_text c.now) cs) →
-    size ≤ longest * length cs → (form : Form) (before : ℕ) → data_size (record_text form before (given Global cs)) ≤ most_sectors
+    size ≤ longest * length cs → (form : Form) (before : ℕ) → data_size (record_text form before (given Global cs)) ≤ most_data_sectors
 few_sectors cs size few is most form before =
     let text = given_size Global form before cs in
     omega (arith, text, (head_most form).1, is, most, few)
 
 -- after a checkpoint a record of them fits
 pub not_again : {D : Type 0} (cs : List (Bor G)) (layout : Layout) (side : Side) (count : ℕ) (mid new : StoreView Global D) (r : Answers) →
-    ((form : Form) (before : ℕ) → data_size (record_text form before (given Global cs)) ≤ most_sectors)
+    ((form : Form) (before : ℕ) → data_size (record_text form before (given Global cs)) ≤ most_data_sectors)
     → mid.journal ≡ fresh_place layout side count → HasTried (asked cs) mid new r → IsErrOf r Unready → ⊥
 not_again cs layout side count mid new r most is h unready =
     let fits = fits_fresh Global ok_unit layout side count mid.journal cs most is in

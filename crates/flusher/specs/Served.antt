@@ -22,7 +22,7 @@ use Rattle.flusher.specs.Endings.{AreEnded}
 use Rattle.flusher.specs.Answerings.{HaveAnswered}
 use Rattle.flusher.specs.Borne.{AreSentInOrder}
 use Rattle.flusher.specs.Order.{AreInOrder}
-use Rattle.flusher.specs.View.{FlusherView, Progress, stage_of}
+use Rattle.flusher.specs.View.{FlusherView, RoundProgress, stage_of}
 
 -- What always holds between two rounds. What is durable is a history, and a sound store's register is what this history makes. What is
 -- published is a prefix of the history. The history bears out each answer that was sent. Its commands are in the order in which they
@@ -47,7 +47,7 @@ decision_by BadGeometry = decision.Fault BadGeometry
 decision_by (Damaged at) = decision.Fault (Damaged at)
 
 -- How a round goes from the progress f to the progress g. It answers these commands, with these answers, at moment t.
-module _ {D : Type 0} (base : State) (t : Tick) (f g : Progress D) (commands : List (Asked Global)) (answers : List Sent) where
+module _ {D : Type 0} (base : State) (t : Tick) (f g : RoundProgress D) (commands : List (Asked Global)) (answers : List Sent) where
   -- The commands were committed, and each is answered by its outcome. That is its reply in its turn. If memory ran out for a command, it
   -- and all later ones are answered as out of memory. What is accepted is published. If publishing ran out of memory, an accepted command
   -- is answered as kept. A checkpoint was made only if a record of all the commands would not fit.
@@ -112,7 +112,7 @@ module _ {D : Type 0} (base : State) (t : Tick) (f g : Progress D) (commands : L
 
 -- Each command got one answer, in turn, at moment t. The core comes from the one stage to the other by a run of the flusher's
 -- events, with the replies among these answers (`HasRun`). Each answer has its reason (`AreServed`).
-pub record HasServed {D : Type 0} (base : State) (t : Tick) (f g : Progress D) (commands : List (Asked Global)) (old new : List (AnswerSender Sent)) : Type 0 where
+pub record HasServed {D : Type 0} (base : State) (t : Tick) (f g : RoundProgress D) (commands : List (Asked Global)) (old new : List (AnswerSender Sent)) : Type 0 where
   pub answers : List Sent
   pub asked : commands_of answers ≡ commands
   pub answered : HaveAnswered old answers new

@@ -8,8 +8,8 @@ use Rattle.flusher.specs.Submitted.{SessionView}
 
 module _ {J : Type 0} where
   -- what the session put into the queue, what it received, and the list that it has seen; it has reached all of this list
-  abbrev pub view_of : Session J → SessionView
-  view_of s = record { sent = s.sender.sent; received = received_of s.receiver.pass; seen = s.viewer; reached = length s.viewer }
+  abbrev pub view_of_session : Session J → SessionView
+  view_of_session s = record { sent = s.sender.sent; received = received_of s.receiver.pass; seen = s.viewer; reached = length s.viewer }
 
   -- new has the station, queue and channel of old, and its share of the queue's places
   pub record IsSameSession (old new : Session J) : Type 0 where
@@ -21,7 +21,7 @@ module _ {J : Type 0} where
     pub gone : new.listening ≡ false → old.listening ≡ false
 
   -- Nothing is sent or received, and what was seen stays seen. The share stays, and so does whether the flusher was found gone.
-  pub record HasOnlyRead (old new : Session J) : Type 0 where
+  pub record SessionHasOnlyRead (old new : Session J) : Type 0 where
     pub sender : new.sender ≡ old.sender
     pub receiver : new.receiver ≡ old.receiver
     pub seen : IsPrefix old.viewer new.viewer

@@ -29,8 +29,8 @@ abbrev pub durable_of : {J : Type 0} → Publication J → List (Asked Global)
 durable_of p = p.publisher.appended ++ commands_in p.unpublished.items
 
 -- this flusher as modelled
-abbrev pub view_of : {J D : Type 0} {g : Ghosts D} → Flusher J D g → FlusherView D
-view_of f = record {
+abbrev pub view_of_flusher : {J D : Type 0} {g : Ghosts D} → Flusher J D g → FlusherView D
+view_of_flusher f = record {
   taker = f.taker;
   published = f.publication.publisher.published;
   durable = durable_of f.publication;
@@ -41,22 +41,22 @@ view_of f = record {
 }
 
 -- how far the centre has come: what is published and durable, its store, and its attempts to commit and to publish
-pub record Progress (D : Type 0) : Type 0 where
+pub record RoundProgress (D : Type 0) : Type 0 where
   pub published : List (Asked Global)
   pub durable : List (Asked Global)
   pub store : StoreView Global D
   pub attempts : Tries
 
 -- progress with these parts
-abbrev pub progress : {D : Type 0} → List (Asked Global) → List (Asked Global) → StoreView Global D → Tries → Progress D
+abbrev pub progress : {D : Type 0} → List (Asked Global) → List (Asked Global) → StoreView Global D → Tries → RoundProgress D
 progress published durable store attempts = record { published = published; durable = durable; store = store; attempts = attempts }
 
 -- how far this flusher has come
-abbrev pub progress_of : {D : Type 0} → FlusherView D → Progress D
+abbrev pub progress_of : {D : Type 0} → FlusherView D → RoundProgress D
 progress_of f = progress f.published f.durable f.store f.attempts
 
 -- how far the flusher with this publication and this committer has come
-abbrev pub progress_by : {J D : Type 0} {g : Ghosts D} → Publication J → Committer D g → Progress D
+abbrev pub progress_by : {J D : Type 0} {g : Ghosts D} → Publication J → Committer D g → RoundProgress D
 progress_by p c = progress p.publisher.published (durable_of p) (store_view c.store) (tries c.attempts p.publisher.refusals)
 
 -- whether a checkpoint is under way in a store that is not broken
@@ -64,5 +64,5 @@ abbrev pub is_checking : {D : Type 0} → StoreView Global D → Bool
 is_checking store = cond store.broken false (is_some store.ongoing)
 
 -- the stage of the core at this progress
-abbrev pub stage_of : {D : Type 0} → Progress D → Stage
+abbrev pub stage_of : {D : Type 0} → RoundProgress D → Stage
 stage_of f = stage f.published f.durable (is_checking f.store) f.store.broken

@@ -34,7 +34,7 @@ const TURNS: u32 = 64;
 /// The commands of a round, each with its copy, and how many stations sent those of the last round that had any. There is room for 64
 /// commands.
 #[derive(Drop)]
-pub struct Room {
+pub struct BatchBuffers {
     pub(crate) batch: VecDeque<SharedCommand>,
     pub(crate) copies: VecDeque<SharedCommand>,
     pub(crate) stations: usize,
@@ -45,7 +45,7 @@ pub struct Room {
 }
 
 // Keeps the command of an entry and its copy, or notes the end of a session.
-fn put(entry: Entry, room: &mut Room, ended: &mut Vec<bool>)
+fn put(entry: Entry, room: &mut BatchBuffers, ended: &mut Vec<bool>)
     requires few { length room.old.batch.items < 64 }
     requires station { (0 < station_of entry) × (station_of entry ≤ length ended.old.items) }
     ensures batch { commands_in room.new.batch.items ≡ commands_in room.old.batch.items ++ commands_among (entry ∷ []) }
@@ -107,7 +107,7 @@ fn take_within<R: Wait>(rt: &R, taker: &mut Taker, turns: u32) -> Option<Entry>
     taker.take(rt)
 }
 
-impl Room {
+impl BatchBuffers {
     ghost use Rattle.std.specs.Prelude.{◌≡◌};
 
     // Notes how many stations sent the commands of this round, if any did.
@@ -123,7 +123,12 @@ impl Room {
 
 // Takes entries until there are 64 or the queue is empty, and notes the stations that ended. It returns how many stations have sent
 // all that they send before they are answered. If it takes no entry, the contract says only that the queue was found empty, now or earlier.
-fn take_entries<R: Wait>(rt: &R, taker: &mut Taker, room: &mut Room, ended: &mut Vec<bool>) -> usize
+fn take_entries<R: Wait>(
+    rt: &R,
+    taker: &mut Taker,
+    room: &mut BatchBuffers,
+    ended: &mut Vec<bool>,
+) -> usize
     requires empty { room.old.batch.items ≡ [] }
     requires flags { taker.old.made ≡ length ended.old.items }
     ensures taken { HasTakenBatch taker.old taker.new ended.old.items ended.new.items (commands_in room.new.batch.items) }
@@ -145,7 +150,12 @@ fn take_entries<R: Wait>(rt: &R, taker: &mut Taker, room: &mut Room, ended: &mut
 
 /// Takes entries until there are 64 or the queue is empty. It keeps the commands among them, and notes the stations that ended. If it
 /// takes no entry, the contract says only that the queue was found empty, now or earlier.
-pub(crate) fn take_batch<R: Wait>(rt: &R, taker: &mut Taker, room: &mut Room, ended: &mut Vec<bool>)
+pub(crate) fn take_batch<R: Wait>(
+    rt: &R,
+    taker: &mut Taker,
+    room: &mut BatchBuffers,
+    ended: &mut Vec<bool>,
+)
     requires empty { room.old.batch.items ≡ [] }
     requires flags { taker.old.made ≡ length ended.old.items }
     ensures taken { HasTakenBatch taker.old taker.new ended.old.items ended.new.items (commands_in room.new.batch.items) }

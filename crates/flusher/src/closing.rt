@@ -7,7 +7,7 @@ ghost use Rattle.answers.specs.Views.{sent_of, received_of};
 ghost use Rattle.station_queue.specs.Ends.{with_settled};
 ghost use Rattle.station_queue.specs.Order.{settled};
 ghost use Rattle.recovery.specs.Lives.{view_of as store_view};
-ghost use Rattle.flusher.specs.View.{view_of};
+ghost use Rattle.flusher.specs.View.{view_of_flusher};
 ghost use Rattle.flusher.specs.Served.{IsSettled};
 ghost use Rattle.flusher.specs.Closed.{AreSessionsOf, IsClosed, IsNotClosed};
 
@@ -101,11 +101,11 @@ pub fn close<J: Centre, D: Disk, R: Wait>(
     flusher: Flusher<J, D>,
     ended: Vec<Ended<J>>,
 ) -> Result<Store<Global, D>, (Flusher<J, D>, Vec<Ended<J>>)>
-    requires settled { IsSettled J.base (view_of flusher) }
-    requires sessions { AreSessionsOf (view_of flusher) ended.items }
-    ensures store { IfOk result (λ store. store_view store ≡ (view_of flusher).store) }
-    ensures closed { IfOk result (λ _. IsClosed J.base (view_of flusher) ended.items) }
-    ensures refused { IfErr result (λ back. (back.0 ≡ flusher) × (back.1 ≡ ended) × IsNotClosed (view_of flusher)) }
+    requires settled { IsSettled J.base (view_of_flusher flusher) }
+    requires sessions { AreSessionsOf (view_of_flusher flusher) ended.items }
+    ensures store { IfOk result (λ store. store_view store ≡ (view_of_flusher flusher).store) }
+    ensures closed { IfOk result (λ _. IsClosed J.base (view_of_flusher flusher) ended.items) }
+    ensures refused { IfErr result (λ back. (back.0 ≡ flusher) × (back.1 ≡ ended) × IsNotClosed (view_of_flusher flusher)) }
 {
     if !flusher.has_ended() {
         return Err((flusher, ended));
@@ -131,7 +131,7 @@ impl<J: Centre, D: Disk> Flusher<J, D> {
     /// that has no place left waits for ever, also in `finish`. No clause says that a session that waits for its answer gets
     /// `Closed`.
     pub fn abandon<R: Wait>(self, rt: &R) -> Store<Global, D>
-        ensures { store_view result ≡ (view_of self).store }
+        ensures { store_view result ≡ (view_of_flusher self).store }
     {
         let Flusher {
             taker: _,

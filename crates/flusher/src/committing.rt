@@ -106,7 +106,7 @@ impl<D: Disk> Committer<D> {
         ensures store { KeepsStore D.view (view_of self.old.store) (view_of self.new.store) }
     {
         registers(register_of(&self.store));
-        hold_ranges(commands);
+        facts_of_ranges(commands);
         let done = self.store.commit(self.alloc, commands);
         self.attempts = self.attempts.after(is_out_of_memory(&done));
         done
@@ -135,7 +135,7 @@ pub fn register_of<D: Disk>(store: &Store<Global, D>) -> &Register<Global>
 }
 
 // Each field of these commands is in its range.
-fn hold_ranges(commands: &[&Command<Global>])
+fn facts_of_ranges(commands: &[&Command<Global>])
     ensures { All (λ command. InRange command.now) commands.now }
 {
     for command in commands {

@@ -2,7 +2,7 @@
 ghost use Rattle.std.specs.Prelude.{◌≡◌, ◌⊎◌, ◌+◌, ◌-◌, ◌^◌, [], None, Some, length, MatchBool};
 ghost use Rattle.recovery.specs.declared.fault.StoreFault.TheVariants.{Broken};
 
-use crate::batch::{Room, take_batch};
+use crate::batch::{BatchBuffers, take_batch};
 use crate::committing::Committer;
 use crate::publishing::Publication;
 use crate::response::Response;
@@ -29,7 +29,7 @@ pub struct Flusher<J: Centre, D: Disk> {
     pub(crate) senders: Vec<AnswerSender<Response<J>>>,
     pub(crate) publication: Publication<J>,
     pub(crate) committer: Committer<D>,
-    pub(crate) room: Room,
+    pub(crate) room: BatchBuffers,
     pub(crate) ended: Vec<bool>,
     pub(crate) rounds: u64,
     pub ghost stations: { taker.made ≡ length senders.items },
@@ -60,22 +60,22 @@ impl<J: Centre, D: Disk> Flusher<J, D> {
     ghost use Rattle.flusher.specs.Rounds.{IsRound};
     ghost use Rattle.flusher.specs.Served.{IsSettled};
     ghost use Rattle.flusher.specs.Stored.{IsStoredFor};
-    ghost use Rattle.flusher.specs.View.{view_of};
+    ghost use Rattle.flusher.specs.View.{view_of_flusher};
 
     /// One round. Unless the disk has failed, it publishes what an earlier round left. It takes commands. If the disk has not
     /// failed, and all that is durable is published, it commits them and publishes those that are accepted. It answers each.
     pub fn round<R: Wait, T: Gate>(&mut self, rt: &R, gate: &T)
-        requires settled { IsSettled J.base (view_of self.old) }
-        ensures settled { IsSettled J.base (view_of self.new) }
-        ensures round { IsRound D.view J.base (view_of self.old) (view_of self.new) }
+        requires settled { IsSettled J.base (view_of_flusher self.old) }
+        ensures settled { IsSettled J.base (view_of_flusher self.new) }
+        ensures round { IsRound D.view J.base (view_of_flusher self.old) (view_of_flusher self.new) }
         ensures counted { (self.new.rounds ≡ self.old.rounds + 1) ⊎ ((self.old.rounds ≡ 2 ^ 64 - 1) × (self.new.rounds ≡ self.old.rounds)) }
 
         // The round is a call in the life of the disk. After it each image of the disk opens to what is durable, or once the disk
         // has failed perhaps to more. If the store was sound before, a stop at any moment of the round leaves the register from
         // before the round or after it. What bears out an answer was durable before the answer was sent. Only a failure of the
         // disk breaks the store.
-        ensures stored { IsStoredFor D.view J.base (view_of self.old) → IsRoundStored D.view J.base (view_of self.old) (view_of self.new) }
-        ensures breaks { BreaksByDisk D.view (view_of self.old).store (view_of self.new).store }
+        ensures stored { IsStoredFor D.view J.base (view_of_flusher self.old) → IsRoundStored D.view J.base (view_of_flusher self.old) (view_of_flusher self.new) }
+        ensures breaks { BreaksByDisk D.view (view_of_flusher self.old).store (view_of_flusher self.new).store }
     {
         let Flusher {
             taker,

@@ -8,9 +8,9 @@ ghost use Rattle.flusher.specs.declared.opening.CentreFault.TheVariants.{NoMemor
 ghost use Rattle.flusher.specs.Opened.{AreNewSessions, AreOpened, IsNewFlusher, IsNewSession, has_place};
 ghost use Rattle.flusher.specs.Attempts.{none_tried, tries};
 ghost use Rattle.flusher.specs.Served.{IsSettled};
-ghost use Rattle.flusher.specs.View.{view_of};
+ghost use Rattle.flusher.specs.View.{view_of_flusher};
 
-use crate::batch::{MOST, Room};
+use crate::batch::{BatchBuffers, MOST};
 use crate::committing::{Committer, register_of};
 use crate::flusher::Flusher;
 use crate::listening::Listening;
@@ -52,7 +52,7 @@ struct Ends<J: Centre> {
 #[derive(Drop)]
 struct Buffers {
     unpublished: VecDeque<SharedCommand>,
-    room: Room,
+    room: BatchBuffers,
     ended: Vec<bool>,
 }
 
@@ -153,7 +153,7 @@ fn open_buffers(alloc: Global, stations: usize) -> Result<Buffers, AllocError>
     let ended = vec![in alloc; false; stations]?;
     Ok(Buffers {
         unpublished,
-        room: Room {
+        room: BatchBuffers {
             batch,
             copies,
             stations: 0,
@@ -205,11 +205,11 @@ pub fn open_centre<J: Centre, D: Disk, R: Wait>(
     requires centre { (log.seen.book ≡ J.book) × (store.register ≡ J.base) }
 
     // The flusher has the store, and has taken, committed and sent nothing. The sessions are its own.
-    ensures flusher { IfOk result (λ r. IsNewFlusher sessions (store_of store) (view_of r.0)) }
-    ensures settled { IfOk result (λ r. IsSettled J.base (view_of r.0)) }
+    ensures flusher { IfOk result (λ r. IsNewFlusher sessions (store_of store) (view_of_flusher r.0)) }
+    ensures settled { IfOk result (λ r. IsSettled J.base (view_of_flusher r.0)) }
     ensures uncounted { IfOk result (λ r. r.0.rounds ≡ 0) }
-    ensures untried { IfOk result (λ r. (view_of r.0).attempts ≡ tries none_tried 0) }
-    ensures sessions { IfOk result (λ r. AreNewSessions (view_of r.0).taker.queue (view_of r.0).senders r.1.items) }
+    ensures untried { IfOk result (λ r. (view_of_flusher r.0).attempts ≡ tries none_tried 0) }
+    ensures sessions { IfOk result (λ r. AreNewSessions (view_of_flusher r.0).taker.queue (view_of_flusher r.0).senders r.1.items) }
 
     // All sessions have equal shares of the queue's places.
     ensures shares { IfOk result (λ r. All (λ s. s.share ≡ share_of sessions) r.1.items) }

@@ -108,7 +108,7 @@ impl<J: Centre> Publication<J> {
     }
 
     /// Keeps the copies of the commands that were accepted, and drops the others.
-    pub(crate) fn keep(
+    pub(crate) fn queue_accepted(
         &mut self,
         copies: &mut VecDeque<SharedCommand>,
         outcomes: &[Outcome<Global>],

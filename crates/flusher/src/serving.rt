@@ -12,7 +12,7 @@ ghost use Rattle.flusher.specs.Inside.Committing.{KeepsStore};
 ghost use Rattle.flusher.specs.Inside.Serving.{HasServedFrom, HavePublishedFrom, IsAfterCommit, IsReady, IsToPublish, answers_alike};
 
 use crate::answering::{answer_all, answer_all_alike};
-use crate::batch::{Room, commit_batch};
+use crate::batch::{BatchBuffers, commit_batch};
 use crate::committing::Committer;
 use crate::moment::Moment;
 use crate::publishing::{Publication, Stamp};
@@ -59,7 +59,7 @@ pub(crate) fn refuse<J: Centre, R: Wait>(
     stamp: &Stamp<J>,
     senders: &mut Vec<AnswerSender<Response<J>>>,
     fault: Option<StoreFault>,
-    room: &mut Room,
+    room: &mut BatchBuffers,
 )
     requires stations { AreWithin (length senders.old.items) (commands_in room.old.batch.items) }
     ensures answered { HaveAnswered senders.old.items (answers_alike stamp.now fault (commands_in room.old.batch.items)) senders.new.items }
@@ -85,7 +85,7 @@ pub(crate) fn commit_and_answer<J: Centre, D: Disk, R: Wait>(
     committer: &mut Committer<D>,
     publication: &mut Publication<J>,
     senders: &mut Vec<AnswerSender<Response<J>>>,
-    room: &mut Room,
+    room: &mut BatchBuffers,
 )
     requires ready { IsReady J.base publication.old committer.old }
     requires stations { AreWithin (length senders.old.items) (commands_in room.old.batch.items) }
@@ -102,7 +102,7 @@ pub(crate) fn commit_and_answer<J: Centre, D: Disk, R: Wait>(
 {
     match commit_batch(committer, &room.batch) {
         Ok(outcomes) => {
-            publication.keep(&mut room.copies, outcomes.as_slice());
+            publication.queue_accepted(&mut room.copies, outcomes.as_slice());
             let moment = committer.moment();
             let committed = Committed { outcomes, moment };
             publish_and_answer(rt, publication, senders, &mut room.batch, committed);

@@ -55,7 +55,7 @@ impl<J: Centre> Session<J> {
     ghost use Rattle.flusher.specs.Closed.{HasFinished};
     ghost use Rattle.flusher.specs.Heard.{ArePutFirst};
     ghost use Rattle.flusher.specs.Submitted.{AreSubmissions, HasShortAnswer, IsSubmission, IsUnanswered};
-    ghost use Rattle.flusher.specs.Sessions.{HasOnlyRead, IsSameSession, view_of};
+    ghost use Rattle.flusher.specs.Sessions.{SessionHasOnlyRead, IsSameSession, view_of_session};
 
     /// Its station.
     pub fn station(&self) -> Station
@@ -81,14 +81,14 @@ impl<J: Centre> Session<J> {
         requires station { command.station ≡ self.old.sender.station }
 
         // What is put into the queue, what is received, and what the answer says. What was seen stays seen.
-        ensures submitted { IsSubmission J.base command (view_of self.old) (view_of self.new) result }
+        ensures submitted { IsSubmission J.base command (view_of_session self.old) (view_of_session self.new) result }
         ensures seen { IsPrefix self.old.viewer self.new.viewer }
 
         // A PDU in the answer has at most 2,048 bits.
         ensures short { HasShortAnswer result }
 
         // If it was put into the queue and no answer was received, the flusher was found gone.
-        ensures gone { IsUnanswered (view_of self.old) (view_of self.new) result → self.new.listening ≡ true }
+        ensures gone { IsUnanswered (view_of_session self.old) (view_of_session self.new) result → self.new.listening ≡ true }
 
         // It stays the session of its station, with its share.
         ensures same { IsSameSession self.old self.new }
@@ -123,7 +123,7 @@ impl<J: Centre> Session<J> {
 
         // Each is answered as if it were submitted after the answer to the one before it. A prefix of them is put into the queue, and the
         // others are answered as out of memory.
-        ensures submitted { AreSubmissions J.base commands.now (view_of self.old) (view_of self.new) answers.new.items }
+        ensures submitted { AreSubmissions J.base commands.now (view_of_session self.old) (view_of_session self.new) answers.new.items }
         ensures put { ArePutFirst commands.now self.old.sender.sent self.new.sender.sent answers.new.items }
         ensures seen { IsPrefix self.old.viewer self.new.viewer }
         ensures short { All HasShortAnswer answers.new.items }
@@ -160,7 +160,7 @@ impl<J: Centre> Session<J> {
         ensures closed { IsErrOf result Closed → self.new.viewer ≡ self.old.viewer }
 
         // Nothing is sent or received, and what was seen stays seen.
-        ensures reads { HasOnlyRead self.old self.new }
+        ensures reads { SessionHasOnlyRead self.old self.new }
     {
         self.viewer.read(alloc, query)
     }
@@ -181,7 +181,7 @@ impl<J: Centre> Session<J> {
         ensures capacity { vec_capacity out.old ≤ vec_capacity out.new }
 
         // Nothing is sent or received, and what was seen stays seen.
-        ensures reads { HasOnlyRead self.old self.new }
+        ensures reads { SessionHasOnlyRead self.old self.new }
     {
         self.viewer.list(listing, out)
     }
@@ -192,7 +192,7 @@ impl<J: Centre> Session<J> {
         ensures learnt { IsPrefix published.now self.new.viewer }
 
         // Nothing is sent or received, and what was seen stays seen.
-        ensures reads { HasOnlyRead self.old self.new }
+        ensures reads { SessionHasOnlyRead self.old self.new }
     {
         self.viewer.learn(published);
     }

@@ -1,7 +1,7 @@
 //! A centre over a store, and how many commands a store has accepted.
 ghost use Rattle.std.specs.Prelude.{◌≡◌, false, IfSome};
 ghost use Rattle.flusher.specs.Served.{IsSettled};
-ghost use Rattle.flusher.specs.View.{view_of};
+ghost use Rattle.flusher.specs.View.{view_of_flusher};
 
 use flusher::{Flusher, Session, open_centre};
 use probe_live_centre::WatchedDisk;
@@ -21,7 +21,7 @@ pub fn centre<J: Centre, R: Wait>(
 ) -> Option<(Flusher<J, WatchedDisk>, Vec<Session<J>>)>
     requires sound { store.broken ≡ false }
     requires centre { (log.seen.book ≡ J.book) × (store.register ≡ J.base) }
-    ensures settled { IfSome result (λ r. IsSettled J.base (view_of r.0)) }
+    ensures settled { IfSome result (λ r. IsSettled J.base (view_of_flusher r.0)) }
 {
     match open_centre::<J, WatchedDisk, R>(rt, alloc, log, store, sessions) {
         Ok(both) => Some(both),

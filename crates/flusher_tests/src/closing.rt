@@ -6,7 +6,7 @@ ghost use Rattle.flusher.specs.Opened.{AreNewSessions};
 ghost use Rattle.flusher.specs.Runs.{HasSameEnds};
 ghost use Rattle.flusher.specs.Served.{IsSettled};
 ghost use Rattle.flusher.specs.Sessions.{IsSameSession};
-ghost use Rattle.flusher.specs.View.{view_of};
+ghost use Rattle.flusher.specs.View.{view_of_flusher};
 
 use crate::centres::count;
 use flusher::{Answer, Ended, Flusher, Session, close, open_centre};
@@ -57,9 +57,9 @@ fn are_accepted<J: Centre, R: Wait>(
 
 // Makes rounds until both have their answers.
 fn serve<J: Centre, R: Wait>(rt: &R, flusher: &mut Flusher<J, WatchedDisk>, stage: &AtomicU64)
-    requires settled { IsSettled J.base (view_of flusher.old) }
-    ensures settled { IsSettled J.base (view_of flusher.new) }
-    ensures same { HasSameEnds (view_of flusher.old) (view_of flusher.new) }
+    requires settled { IsSettled J.base (view_of_flusher flusher.old) }
+    ensures settled { IsSettled J.base (view_of_flusher flusher.new) }
+    ensures same { HasSameEnds (view_of_flusher flusher.old) (view_of_flusher flusher.new) }
 {
     for _ in 0..TURNS {
         if stage.load(Ordering::SeqCst) == ANSWERED {
@@ -79,9 +79,9 @@ fn are_served<J: Centre + Send + Sync, R: Threads + Wait + Sync>(
     second: &mut Session<J>,
     stage: &AtomicU64,
 ) -> bool
-    requires settled { IsSettled J.base (view_of flusher.old) }
-    ensures settled { IsSettled J.base (view_of flusher.new) }
-    ensures same { HasSameEnds (view_of flusher.old) (view_of flusher.new) }
+    requires settled { IsSettled J.base (view_of_flusher flusher.old) }
+    ensures settled { IsSettled J.base (view_of_flusher flusher.new) }
+    ensures same { HasSameEnds (view_of_flusher flusher.old) (view_of_flusher flusher.new) }
     ensures first { IsSameSession first.old first.new }
     ensures second { IsSameSession second.old second.new }
 {
@@ -91,8 +91,8 @@ fn are_served<J: Centre + Send + Sync, R: Threads + Wait + Sync>(
             ensures { IsSameSession first.entry.now first.exit.now × IsSameSession second.entry.now second.exit.now }
         { are_accepted(rt, first, second, stage) },
         &mut ||
-            requires { IsSettled J.base (view_of flusher.now) }
-            ensures { IsSettled J.base (view_of flusher.exit.now) × HasSameEnds (view_of flusher.entry.now) (view_of flusher.exit.now) }
+            requires { IsSettled J.base (view_of_flusher flusher.now) }
+            ensures { IsSettled J.base (view_of_flusher flusher.exit.now) × HasSameEnds (view_of_flusher flusher.entry.now) (view_of_flusher flusher.exit.now) }
         { serve(rt, flusher, stage) },
     );
     accepted
@@ -136,8 +136,8 @@ fn closed_later<J: Centre, R: Wait>(
     flusher: Flusher<J, WatchedDisk>,
     ended: Vec<Ended<J>>,
 ) -> Option<Store<Global, WatchedDisk>>
-    requires settled { IsSettled J.base (view_of flusher) }
-    requires sessions { AreSessionsOf (view_of flusher) ended.items }
+    requires settled { IsSettled J.base (view_of_flusher flusher) }
+    requires sessions { AreSessionsOf (view_of_flusher flusher) ended.items }
 {
     let mut flusher = flusher;
     flusher.round(rt, &Idle);
@@ -157,8 +157,8 @@ fn closed_twice<J: Centre, R: Wait>(
     flusher: Flusher<J, WatchedDisk>,
     ended: Vec<Ended<J>>,
 ) -> Option<(usize, Store<Global, WatchedDisk>)>
-    requires settled { IsSettled J.base (view_of flusher) }
-    requires sessions { AreSessionsOf (view_of flusher) ended.items }
+    requires settled { IsSettled J.base (view_of_flusher flusher) }
+    requires sessions { AreSessionsOf (view_of_flusher flusher) ended.items }
 {
     match close(rt, flusher, ended) {
         Ok(store) => {
@@ -182,9 +182,9 @@ fn closed_new<J: Centre + Send + Sync, R: Threads + Wait + Sync>(
     sessions: Vec<Session<J>>,
     ended: Vec<Ended<J>>,
 ) -> Option<(usize, Store<Global, WatchedDisk>)>
-    requires settled { IsSettled J.base (view_of flusher) }
-    requires two { length (view_of flusher).senders ≡ 2 }
-    requires sessions { AreNewSessions (view_of flusher).taker.queue (view_of flusher).senders sessions.items }
+    requires settled { IsSettled J.base (view_of_flusher flusher) }
+    requires two { length (view_of_flusher flusher).senders ≡ 2 }
+    requires sessions { AreNewSessions (view_of_flusher flusher).taker.queue (view_of_flusher flusher).senders sessions.items }
     requires none { ended.items ≡ [] }
     requires room { 2 ≤ vec_capacity ended }
 {

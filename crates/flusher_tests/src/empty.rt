@@ -1,7 +1,7 @@
 //! Rounds that find the queue empty.
 ghost use Rattle.std.specs.Prelude.{◌≡◌, false};
 ghost use Rattle.flusher.specs.Served.{IsSettled};
-ghost use Rattle.flusher.specs.View.{view_of};
+ghost use Rattle.flusher.specs.View.{view_of_flusher};
 
 use crate::centres::{centre, count};
 use flusher::{Flusher, Gate};
@@ -32,8 +32,8 @@ impl Gate for Rounds {
 
 // Makes two rounds; whether the gate was called in each, with no command taken.
 fn are_idle<J: Centre, R: Wait>(rt: &R, flusher: &mut Flusher<J, WatchedDisk>) -> bool
-    requires settled { IsSettled J.base (view_of flusher.old) }
-    ensures settled { IsSettled J.base (view_of flusher.new) }
+    requires settled { IsSettled J.base (view_of_flusher flusher.old) }
+    ensures settled { IsSettled J.base (view_of_flusher flusher.new) }
 {
     let reported = Rounds {
         calls: AtomicU64::new(0),

@@ -1,7 +1,7 @@
 //! Two sessions: one reads while the gate holds the commit of the other. Then both submit more.
 ghost use Rattle.std.specs.Prelude.{◌≡◌, false};
 ghost use Rattle.flusher.specs.Served.{IsSettled};
-ghost use Rattle.flusher.specs.View.{view_of};
+ghost use Rattle.flusher.specs.View.{view_of_flusher};
 
 use crate::centres::{centre, count};
 use centre_core::{Query, QueryAnswer};
@@ -186,8 +186,8 @@ fn is_held<J: Centre + Send + Sync, R: Threads + Wait + Sync>(
     flusher: &mut Flusher<J, WatchedDisk>,
     sessions: &mut Vec<Session<J>>,
 ) -> bool
-    requires settled { IsSettled J.base (view_of flusher.old) }
-    ensures settled { IsSettled J.base (view_of flusher.new) }
+    requires settled { IsSettled J.base (view_of_flusher flusher.old) }
+    ensures settled { IsSettled J.base (view_of_flusher flusher.new) }
 {
     let held = Held {
         alloc,
@@ -204,8 +204,8 @@ fn is_more<J: Centre + Send + Sync, R: Threads + Wait + Sync>(
     flusher: &mut Flusher<J, WatchedDisk>,
     sessions: &mut Vec<Session<J>>,
 ) -> bool
-    requires settled { IsSettled J.base (view_of flusher.old) }
-    ensures settled { IsSettled J.base (view_of flusher.new) }
+    requires settled { IsSettled J.base (view_of_flusher flusher.old) }
+    ensures settled { IsSettled J.base (view_of_flusher flusher.new) }
 {
     let more = More {
         accepted: AtomicU64::new(0),

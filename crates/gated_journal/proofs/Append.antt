@@ -7,7 +7,7 @@ use Rattle.sector_disk.specs.Run.{LeavesOnly, IsTornImage}
 use Rattle.sector_disk.specs.Filling.{HasFilled}
 use Rattle.sector_disk.specs.declared.disk.DiskError.{DiskError}
 use Rattle.sector_disk.proofs.Moments.{goes_on, run_on, started, weaker, synced_images, durable_image}
-use Rattle.gated_journal.specs.Half.{Entry, IsOpen}
+use Rattle.gated_journal.specs.Half.{RecordAt, IsOpen}
 use Rattle.centre_core.specs.Asked.{Asked}
 use Rattle.gated_journal.specs.Inside.Next.{counting}
 use Rattle.gated_journal.specs.Record.{data_sector, data_size}
@@ -17,7 +17,7 @@ use Rattle.gated_journal.proofs.Chain.{half_up, same_half}
 use Rattle.gated_journal.proofs.OneHalf.{IsReadBack, IsStaged, following, beyond_half, counted_on, open_or_not, with_record}
 
 -- before anything is written
-pub nothing_yet : {A : Type 0} (place : Place) (before : ℕ) (entries : List (Entry A)) (last : Entry A) (disk : View) → IsSound disk
+pub nothing_yet : {A : Type 0} (place : Place) (before : ℕ) (entries : List (RecordAt A)) (last : RecordAt A) (disk : View) → IsSound disk
     → IsSettled disk place before entries → LeavesOnly disk disk (Leaves disk place before entries last)
 nothing_yet place before entries last disk sound settled = started disk (Leaves disk place before entries last) sound (λ image is. record {
   elsewhere = (image, is, record { count = refl; others = λ k out. refl });
@@ -45,7 +45,7 @@ then_synced old filled synced at n bytes result has syncs =
     written (Ok u) = λ k lt. as_before (at + k) ∙ has.written k lt
     written (Err e) = tt
 
-module _ {A : Type 0} (place : Place) (before : ℕ) (entries : List (Entry A)) (commands : List (Asked A)) (text : List ℕ)
+module _ {A : Type 0} (place : Place) (before : ℕ) (entries : List (RecordAt A)) (commands : List (Asked A)) (text : List ℕ)
     (read : IsReadBack place before entries commands text) (room : place.next + data_size text + 2 ≤ place.end) where
   abbrev Left : View → List (List ℕ) → Type 0
   Left old = Leaves old place before entries (place.next + 1, commands)

@@ -2,7 +2,7 @@
 use Rattle.std.proofs.Common.{◌≡◌, ℕ, ◌-◌, ◌<◌, List, [], false, Ok, refl}
 use Rattle.sector_disk.specs.Disk.{View, IsImageOf, IsSound, sector}
 use Rattle.sector_disk.proofs.Moments.{only_image}
-use Rattle.gated_journal.specs.Half.{Entry, IsClosed, counted, half_of}
+use Rattle.gated_journal.specs.Half.{RecordAt, IsClosed, counted, half_of}
 use Rattle.gated_journal.specs.Settled.{IsSettled}
 use Rattle.gated_journal.specs.declared.form.Form.{Form}
 use Rattle.gated_journal.specs.declared.place.Place.{Place}
@@ -13,7 +13,7 @@ module _ {A : Type 0} where
       → IsSettled {A = A} disk (record { first = first; end = end; next = first; form = form; count = before }) before []
   begun disk first end before form lt closed = record { begins = lt; within = lt; counts = refl; half = λ image is. last_gate form (end - first) before image first end (closed image is) }
 
-  pub was_read : (disk : View) (place : Place) (before : ℕ) (entries : List (Entry A)) → place.first < place.end → place.next < place.end →
+  pub was_read : (disk : View) (place : Place) (before : ℕ) (entries : List (RecordAt A)) → place.first < place.end → place.next < place.end →
       counted before entries ≡ place.count → ((k : ℕ) → disk.pending k ≡ false) →
       half_of place.form before disk.reads place.first place.end ≡ Ok (entries, place.next)
       → IsSettled disk place before entries
@@ -24,6 +24,6 @@ module _ {A : Type 0} where
     half = λ image is. rw (only_image disk durable image is) reads;
   }
 
-  pub reads_so : (disk : View) (place : Place) (before : ℕ) (entries : List (Entry A)) → IsSound disk → IsSettled disk place before entries →
+  pub reads_so : (disk : View) (place : Place) (before : ℕ) (entries : List (RecordAt A)) → IsSound disk → IsSettled disk place before entries →
       half_of place.form before disk.reads place.first place.end ≡ Ok (entries, place.next)
   reads_so disk place before entries sound settled = settled.half disk.reads sound.reads_left

@@ -8,8 +8,8 @@ use Rattle.sector_disk.specs.Disk.{sector}
 use Rattle.std.specs.Prelude.{◌&&◌}
 use Rattle.centre_core.specs.Asked.{Asked}
 use Rattle.gated_journal.specs.declared.form.Form.{Form}
-use Rattle.gated_journal.specs.Record.{most_sectors, record_of, data_sector, data_size}
-use Rattle.gated_journal.specs.Half.{IsClosed, counted, data_from, stated_size, Found, found, record_at, Entry, Half, with_prefix, half_on, half_from, half_of}
+use Rattle.gated_journal.specs.Record.{most_data_sectors, record_of, data_sector, data_size}
+use Rattle.gated_journal.specs.Half.{IsClosed, counted, data_from, stated_size, Found, found, record_at, RecordAt, Half, with_prefix, half_on, half_from, half_of}
 use Rattle.gated_journal.proofs.Halves.{Opened, opened, both, stated_some}
 
 data_same : (old new : List (List ℕ)) (at n : ℕ) → ((k : ℕ) → k < n → sector new (at + k) ≡ sector old (at + k)) → data_from new at n ≡ data_from old at n
@@ -48,7 +48,7 @@ module _ {A : Type 0} (form : Form) where
       let size = stated_size form (sector image (at + 1)) in
       let next = at + 1 + size in
       let read = found (at + 1) next (record_of form before (data_from image (at + 1) (stated_size form (sector image (at + 1))))) in
-      let b = none_is (eqb (slice_index (sector image at) 0) 1) (eqb (at + 1) end) (leb size most_sectors && ltb next end) at (at + 1) read
+      let b = none_is (eqb (slice_index (sector image at) 0) 1) (eqb (at + 1) end) (leb size most_data_sectors && ltb next end) at (at + 1) read
       (found_something (at + 1) next (record_of form before (data_from image (at + 1) (stated_size form (sector image (at + 1)))))) e in
       grind (arith, nat_tests)
 
@@ -60,7 +60,7 @@ module _ {A : Type 0} (form : Form) where
       let size = stated_size form (sector image (at + 1)) in
       let lt : at + 1 + size < end = omega (arith, is.next_is, is.within) in
       let b : eqb (at + 1) end ≡ false = grind (arith, nat_tests) in
-      let d : (leb size most_sectors && ltb (at + 1 + size) end) ≡ true = both size (at + 1 + size) end is.few lt in
+      let d : (leb size most_data_sectors && ltb (at + 1 + size) end) ≡ true = both size (at + 1 + size) end is.few lt in
       rw (a, b, d, is.read, ← is.next_is) refl
 
   pub opened_same : (before : ℕ) (old new : List (List ℕ)) (at end : ℕ) (commands : List (Asked A)) (next : ℕ) →
@@ -81,15 +81,15 @@ module _ {A : Type 0} (form : Form) where
 
   -- ---- a chain
 
-  ok_parts : (a b : List (Entry A)) (m n : ℕ) → ◌≡◌ {A = Half A} (Ok (a, m)) (Ok (b, n)) → (a ≡ b) × (m ≡ n)
-  ok_parts a b m n e = let pair : ◌≡◌ {A = List (Entry A) × ℕ} (a, m) (b, n) = cc in (ap (λ (x : List (Entry A) × ℕ). x.0) pair, ap (λ (x : List (Entry A) × ℕ). x.1) pair)
+  ok_parts : (a b : List (RecordAt A)) (m n : ℕ) → ◌≡◌ {A = Half A} (Ok (a, m)) (Ok (b, n)) → (a ≡ b) × (m ≡ n)
+  ok_parts a b m n e = let pair : ◌≡◌ {A = List (RecordAt A) × ℕ} (a, m) (b, n) = cc in (ap (λ (x : List (RecordAt A) × ℕ). x.0) pair, ap (λ (x : List (RecordAt A) × ℕ). x.1) pair)
 
-  prefix_is : (prefix : List (Entry A)) (half : Half A) (entries : List (Entry A)) (gate : ℕ) → with_prefix prefix half ≡ Ok (entries, gate) →
-      (rest : List (Entry A)) × (half ≡ Ok (rest, gate)) × (entries ≡ prefix ++ rest)
+  prefix_is : (prefix : List (RecordAt A)) (half : Half A) (entries : List (RecordAt A)) (gate : ℕ) → with_prefix prefix half ≡ Ok (entries, gate) →
+      (rest : List (RecordAt A)) × (half ≡ Ok (rest, gate)) × (entries ≡ prefix ++ rest)
   prefix_is prefix (Ok half) entries gate e = let parts = ok_parts (prefix ++ half.0) entries half.1 gate e in (half.0, ap (λ (g : ℕ). Ok (half.0, g)) parts.1, sym parts.0)
   prefix_is prefix (Err s) entries gate e = absurd cc
 
-  pub goes_up : (fuel before : ℕ) (image : List (List ℕ)) (at end : ℕ) (entries : List (Entry A)) (gate : ℕ) → half_from fuel form before image at end ≡ Ok (entries, gate) → at ≤ gate
+  pub goes_up : (fuel before : ℕ) (image : List (List ℕ)) (at end : ℕ) (entries : List (RecordAt A)) (gate : ℕ) → half_from fuel form before image at end ≡ Ok (entries, gate) → at ≤ gate
   unfolding half_from
   goes_up zero before image at end entries gate e = let same : at ≡ gate = (ok_parts [] entries at gate e).1 in omega (arith, same)
   goes_up (suc fuel) before image at end entries gate e =
@@ -100,7 +100,7 @@ module _ {A : Type 0} (form : Form) where
         | Ok o ↦ λ is f. on (λ x rest. goes_up fuel (before + length x.0) image x.1 end rest gate) o is f
       ] refl e
     where
-      on : ((x : List (Asked A) × ℕ) (rest : List (Entry A)) → half_from fuel form (before + length x.0) image x.1 end ≡ Ok (rest, gate) →
+      on : ((x : List (Asked A) × ℕ) (rest : List (RecordAt A)) → half_from fuel form (before + length x.0) image x.1 end ≡ Ok (rest, gate) →
           x.1 ≤ gate) → (o : Option (List (Asked A) × ℕ)) → record_at form before image at end ≡ Ok o
           → half_on at (Ok o) (λ x. half_from fuel form (before + length x.0) image x.1 end) ≡ Ok (entries, gate) → at ≤ gate
       on go None is f = let same : at ≡ gate = (ok_parts [] entries at gate f).1 in omega (arith, same)
@@ -108,12 +108,12 @@ module _ {A : Type 0} (form : Form) where
           let rest = prefix_is ((at + 1, x.0) ∷ []) (half_from fuel form (before + length x.0) image x.1 end) entries gate f in
           omega (arith, (opened form before image at end x is).next_is, go x rest.0 rest.1)
 
-  pub half_up : (before : ℕ) (image : List (List ℕ)) (at end : ℕ) (entries : List (Entry A)) (gate : ℕ) → half_of form before image at end ≡ Ok (entries, gate) → at ≤ gate
+  pub half_up : (before : ℕ) (image : List (List ℕ)) (at end : ℕ) (entries : List (RecordAt A)) (gate : ℕ) → half_of form before image at end ≡ Ok (entries, gate) → at ≤ gate
   half_up before image at end entries gate e = goes_up (end - at) before image at end entries gate e
 
   -- the first closed gate lies within the half
 
-  stays_below : (fuel before : ℕ) (image : List (List ℕ)) (at end : ℕ) (entries : List (Entry A)) (gate : ℕ) → at < end → half_from fuel form before image at end ≡ Ok (entries, gate) → gate < end
+  stays_below : (fuel before : ℕ) (image : List (List ℕ)) (at end : ℕ) (entries : List (RecordAt A)) (gate : ℕ) → at < end → half_from fuel form before image at end ≡ Ok (entries, gate) → gate < end
   unfolding half_from
   stays_below zero before image at end entries gate within e = let same : at ≡ gate = (ok_parts [] entries at gate e).1 in omega (arith, same, within)
   stays_below (suc fuel) before image at end entries gate within e =
@@ -124,7 +124,7 @@ module _ {A : Type 0} (form : Form) where
         | Ok o ↦ λ is f. on (λ x rest below. stays_below fuel (before + length x.0) image x.1 end rest gate below) o is f
       ] refl e
     where
-      on : ((x : List (Asked A) × ℕ) (rest : List (Entry A)) → x.1 < end → half_from fuel form (before + length x.0) image x.1 end ≡ Ok (rest, gate) →
+      on : ((x : List (Asked A) × ℕ) (rest : List (RecordAt A)) → x.1 < end → half_from fuel form (before + length x.0) image x.1 end ≡ Ok (rest, gate) →
           gate < end) → (o : Option (List (Asked A) × ℕ)) → record_at form before image at end ≡ Ok o
           → half_on at (Ok o) (λ x. half_from fuel form (before + length x.0) image x.1 end) ≡ Ok (entries, gate) → gate < end
       on go None is f = let same : at ≡ gate = (ok_parts [] entries at gate f).1 in omega (arith, same, within)
@@ -132,11 +132,11 @@ module _ {A : Type 0} (form : Form) where
           let rest = prefix_is ((at + 1, x.0) ∷ []) (half_from fuel form (before + length x.0) image x.1 end) entries gate f in
           go x rest.0 ((opened form before image at end x is).within) rest.1
 
-  pub half_below : (before : ℕ) (image : List (List ℕ)) (at end : ℕ) (entries : List (Entry A)) (gate : ℕ) → at < end → half_of form before image at end ≡ Ok (entries, gate) → gate < end
+  pub half_below : (before : ℕ) (image : List (List ℕ)) (at end : ℕ) (entries : List (RecordAt A)) (gate : ℕ) → at < end → half_of form before image at end ≡ Ok (entries, gate) → gate < end
   half_below before image at end entries gate within e = stays_below (end - at) before image at end entries gate within e
 
   -- a half's records hang on the sectors from its first gate to its last alone
-  pub same_from : (fuel before : ℕ) (old new : List (List ℕ)) (at end : ℕ) (entries : List (Entry A)) (gate : ℕ) →
+  pub same_from : (fuel before : ℕ) (old new : List (List ℕ)) (at end : ℕ) (entries : List (RecordAt A)) (gate : ℕ) →
       half_from fuel form before old at end ≡ Ok (entries, gate) → ((k : ℕ) → at ≤ k → k ≤ gate → sector new k ≡ sector old k)
       → half_from fuel form before new at end ≡ Ok (entries, gate)
   unfolding half_from
@@ -150,7 +150,7 @@ module _ {A : Type 0} (form : Form) where
         | Ok o ↦ λ is f. on (λ x rest. same_from fuel (before + length x.0) old new x.1 end rest gate) o is f
       ] refl e
     where
-      on : ((x : List (Asked A) × ℕ) (rest : List (Entry A)) → half_from fuel form (before + length x.0) old x.1 end ≡ Ok (rest, gate) →
+      on : ((x : List (Asked A) × ℕ) (rest : List (RecordAt A)) → half_from fuel form (before + length x.0) old x.1 end ≡ Ok (rest, gate) →
           ((k : ℕ) → x.1 ≤ k → k ≤ gate → sector new k ≡ sector old k) → half_from fuel form (before + length x.0) new x.1 end ≡ Ok (rest, gate))
           → (o : Option (List (Asked A) × ℕ)) → record_at form before old at end ≡ Ok o →
           half_on at (Ok o) (λ x. half_from fuel form (before + length x.0) old x.1 end) ≡ Ok (entries, gate) →
@@ -165,9 +165,9 @@ module _ {A : Type 0} (form : Form) where
           let up = goes_up fuel (before + length x.0) old x.1 end rest.0 gate rest.1 in
           let new_there = record_there before new at end x.0 x.1 (opened_same before old new at end x.0 x.1 there (λ k le lt. same k le (omega (arith, lt, up)))) in
           let tail = go x rest.0 rest.1 (λ k le lt. same k (omega (arith, le, there.next_is)) lt) in
-          rw (new_there, tail) (ap (λ (l : List (Entry A)). Ok (l, gate)) (sym rest.2))
+          rw (new_there, tail) (ap (λ (l : List (RecordAt A)). Ok (l, gate)) (sym rest.2))
 
-  pub same_half : (before : ℕ) (old new : List (List ℕ)) (at end : ℕ) (entries : List (Entry A)) (gate : ℕ) →
+  pub same_half : (before : ℕ) (old new : List (List ℕ)) (at end : ℕ) (entries : List (RecordAt A)) (gate : ℕ) →
       half_of form before old at end ≡ Ok (entries, gate) → ((k : ℕ) → at ≤ k → k ≤ gate → sector new k ≡ sector old k) →
       half_of form before new at end ≡ Ok (entries, gate)
   same_half before old new at end entries gate e same = same_from (end - at) before old new at end entries gate e same
@@ -178,7 +178,7 @@ module _ {A : Type 0} (form : Form) where
   last_gate (suc fuel) before new next end closed = rw (shut before new next end closed) refl
 
   -- with one record more
-  pub more_from : (fuel before : ℕ) (old new : List (List ℕ)) (at end : ℕ) (entries : List (Entry A)) (gate : ℕ) (commands : List (Asked A))
+  pub more_from : (fuel before : ℕ) (old new : List (List ℕ)) (at end : ℕ) (entries : List (RecordAt A)) (gate : ℕ) (commands : List (Asked A))
       (next : ℕ) → end ≤ at + fuel → gate < end → half_from fuel form before old at end ≡ Ok (entries, gate)
       → ((k : ℕ) → at ≤ k → k < gate → sector new k ≡ sector old k) → Opened form (counted before entries) new gate end commands next →
       IsClosed (sector new next) → half_from fuel form before new at end ≡ Ok (entries ++ (gate + 1, commands) ∷ [], next)
@@ -193,7 +193,7 @@ module _ {A : Type 0} (form : Form) where
         | Ok o ↦ λ was f. on (λ x rest. more_from fuel (before + length x.0) old new x.1 end rest gate commands next) o was f
       ] refl e
     where
-      on : ((x : List (Asked A) × ℕ) (rest : List (Entry A)) → end ≤ x.1 + fuel → gate < end →
+      on : ((x : List (Asked A) × ℕ) (rest : List (RecordAt A)) → end ≤ x.1 + fuel → gate < end →
           half_from fuel form (before + length x.0) old x.1 end ≡ Ok (rest, gate) → ((k : ℕ) → x.1 ≤ k → k < gate → sector new k ≡ sector old k) →
           Opened form (counted (before + length x.0) rest) new gate end commands next → IsClosed (sector new next)
           → half_from fuel form (before + length x.0) new x.1 end ≡ Ok (rest ++ (gate + 1, commands) ∷ [], next))
@@ -213,15 +213,15 @@ module _ {A : Type 0} (form : Form) where
           let up = goes_up fuel (before + length x.0) old x.1 end rest.0 gate rest.1 in
           let new_there = record_there before new at end x.0 x.1 (opened_same before old new at end x.0 x.1 there (λ k le lt. same k le (omega (arith, lt, up)))) in
           let tail = go x rest.0 (omega (arith, there.next_is, le)) lt rest.1 (λ k le lt. same k (omega (arith, le, there.next_is)) lt) (rw (ap (counted before) rest.2) at is) closed in
-          rw (new_there, tail) (ap (λ (l : List (Entry A)). Ok (l ++ (gate + 1, commands) ∷ [], next)) (sym rest.2))
+          rw (new_there, tail) (ap (λ (l : List (RecordAt A)). Ok (l ++ (gate + 1, commands) ∷ [], next)) (sym rest.2))
 
-  pub half_more : (before : ℕ) (old new : List (List ℕ)) (at end : ℕ) (entries : List (Entry A)) (gate : ℕ) (commands : List (Asked A)) (next : ℕ) →
+  pub half_more : (before : ℕ) (old new : List (List ℕ)) (at end : ℕ) (entries : List (RecordAt A)) (gate : ℕ) (commands : List (Asked A)) (next : ℕ) →
       gate < end → half_of form before old at end ≡ Ok (entries, gate) → ((k : ℕ) → at ≤ k → k < gate → sector new k ≡ sector old k)
       → Opened form (counted before entries) new gate end commands next → IsClosed (sector new next) → half_of form before new at end ≡ Ok (entries ++ (gate + 1, commands) ∷ [], next)
   half_more before old new at end entries gate commands next lt e same is closed = more_from (end - at) before old new at end entries gate commands next (omega arith) lt e same is closed
 
   -- the last gate's sector may hold anything that is closed
-  pub still_from : (fuel before : ℕ) (old new : List (List ℕ)) (at end : ℕ) (entries : List (Entry A)) (gate : ℕ) →
+  pub still_from : (fuel before : ℕ) (old new : List (List ℕ)) (at end : ℕ) (entries : List (RecordAt A)) (gate : ℕ) →
       half_from fuel form before old at end ≡ Ok (entries, gate) → ((k : ℕ) → at ≤ k → k < gate → sector new k ≡ sector old k) →
       IsClosed (sector new gate)
       → half_from fuel form before new at end ≡ Ok (entries, gate)
@@ -236,7 +236,7 @@ module _ {A : Type 0} (form : Form) where
         | Ok o ↦ λ is f. on (λ x rest. still_from fuel (before + length x.0) old new x.1 end rest gate) o is f
       ] refl e
     where
-      on : ((x : List (Asked A) × ℕ) (rest : List (Entry A)) → half_from fuel form (before + length x.0) old x.1 end ≡ Ok (rest, gate) →
+      on : ((x : List (Asked A) × ℕ) (rest : List (RecordAt A)) → half_from fuel form (before + length x.0) old x.1 end ≡ Ok (rest, gate) →
           ((k : ℕ) → x.1 ≤ k → k < gate → sector new k ≡ sector old k) → IsClosed (sector new gate) →
           half_from fuel form (before + length x.0) new x.1 end ≡ Ok (rest, gate))
           → (o : Option (List (Asked A) × ℕ)) → record_at form before old at end ≡ Ok o →
@@ -252,9 +252,9 @@ module _ {A : Type 0} (form : Form) where
           let up = goes_up fuel (before + length x.0) old x.1 end rest.0 gate rest.1 in
           let new_there = record_there before new at end x.0 x.1 (opened_same before old new at end x.0 x.1 there (λ k le lt. same k le (omega (arith, lt, up)))) in
           let tail = go x rest.0 rest.1 (λ k le lt. same k (omega (arith, le, there.next_is)) lt) closed in
-          rw (new_there, tail) (ap (λ (l : List (Entry A)). Ok (l, gate)) (sym rest.2))
+          rw (new_there, tail) (ap (λ (l : List (RecordAt A)). Ok (l, gate)) (sym rest.2))
 
-  pub still_shut : (before : ℕ) (old new : List (List ℕ)) (at end : ℕ) (entries : List (Entry A)) (gate : ℕ) →
+  pub still_shut : (before : ℕ) (old new : List (List ℕ)) (at end : ℕ) (entries : List (RecordAt A)) (gate : ℕ) →
       half_of form before old at end ≡ Ok (entries, gate) → ((k : ℕ) → at ≤ k → k < gate → sector new k ≡ sector old k) → IsClosed (sector new gate)
       → half_of form before new at end ≡ Ok (entries, gate)
   still_shut before old new at end entries gate e same closed = still_from (end - at) before old new at end entries gate e same closed

@@ -11,10 +11,10 @@ use Rattle.gated_journal.specs.declared.fault.JournalError.{JournalError}
 use Rattle.gated_journal.specs.declared.fault.JournalError.TheVariants.{JournalFull, DiskFault, Damaged, NoMemory}
 use Rattle.gated_journal.specs.Reading.{Fails}
 use Rattle.centre_core.specs.Asked.{Asked}
-use Rattle.gated_journal.specs.Record.{most_sectors, record_of}
+use Rattle.gated_journal.specs.Record.{most_data_sectors, record_of}
 use Rattle.gated_journal.specs.declared.form.Form.{Form}
 use Rattle.gated_journal.specs.declared.form.Form.TheVariants.{Numbered, Plain}
-use Rattle.gated_journal.specs.Half.{counted, data_from, stated_size, Found, found, record_at, Entry, Half, with_prefix, half_on, half_from, half_of}
+use Rattle.gated_journal.specs.Half.{counted, data_from, stated_size, Found, found, record_at, RecordAt, Half, with_prefix, half_on, half_from, half_of}
 
 open_cond : {X : Type 0} (b : Bool) (x : Result (Option X) ℕ) (y : X) → cond b x (Ok None) ≡ Ok (Some y) → (b ≡ true) × (x ≡ Ok (Some y))
 open_cond true x y e = (refl, e)
@@ -28,9 +28,9 @@ within_cond : {X : Type 0} (b : Bool) (s : ℕ) (x : Result X ℕ) (y : X) → c
 within_cond true s x y e = (refl, e)
 within_cond false s x y e = absurd cc
 
-pub both : (size next end : ℕ) → size ≤ most_sectors → next < end → (leb size most_sectors && ltb next end) ≡ true
+pub both : (size next end : ℕ) → size ≤ most_data_sectors → next < end → (leb size most_data_sectors && ltb next end) ≡ true
 both size next end few within =
-    let a : leb size most_sectors ≡ true = grind (arith, nat_tests) in
+    let a : leb size most_data_sectors ≡ true = grind (arith, nat_tests) in
     let b : ltb next end ≡ true = grind (arith, nat_tests) in
     rw (a, b) refl
 
@@ -49,7 +49,7 @@ module _ {A : Type 0} where
   pub record Opened (form : Form) (before : ℕ) (image : List (List ℕ)) (at end : ℕ) (commands : List (Asked A)) (next : ℕ) : Type 0 where
     pub gate : slice_index (sector image at) 0 ≡ 1
     pub next_is : next ≡ at + 1 + stated_size form (sector image (at + 1))
-    pub few : stated_size form (sector image (at + 1)) ≤ most_sectors
+    pub few : stated_size form (sector image (at + 1)) ≤ most_data_sectors
     pub within : next < end
     pub read : record_of form before (data_from image (at + 1) (stated_size form (sector image (at + 1)))) ≡ Some commands
 
@@ -59,10 +59,10 @@ module _ {A : Type 0} where
       let size = stated_size form (sector image (at + 1)) in
       let next = at + 1 + size in
       let read = found (at + 1) next (record_of form before (data_from image (at + 1) (stated_size form (sector image (at + 1))))) in
-      let a = open_cond (eqb (slice_index (sector image at) 0) 1) (cond (eqb (at + 1) end) (Err at) (cond (leb size most_sectors && ltb next end) read (Err (at + 1)))) x e in
-      let b = good_cond (eqb (at + 1) end) at (cond (leb size most_sectors && ltb next end) read (Err (at + 1))) (Some x) a.1 in
-      let d = within_cond (leb size most_sectors && ltb next end) (at + 1) read (Some x) b.1 in
-      let both = both_true (leb size most_sectors) (ltb next end) d.0 in
+      let a = open_cond (eqb (slice_index (sector image at) 0) 1) (cond (eqb (at + 1) end) (Err at) (cond (leb size most_data_sectors && ltb next end) read (Err (at + 1)))) x e in
+      let b = good_cond (eqb (at + 1) end) at (cond (leb size most_data_sectors && ltb next end) read (Err (at + 1))) (Some x) a.1 in
+      let d = within_cond (leb size most_data_sectors && ltb next end) (at + 1) read (Some x) b.1 in
+      let both = both_true (leb size most_data_sectors) (ltb next end) d.0 in
       let is = found_is (at + 1) next (record_of form before (data_from image (at + 1) (stated_size form (sector image (at + 1))))) x d.1 in
       record { gate = eqb-true _ _ a.0; next_is = is.1; few = leb-true _ _ both.0; within = rw is.1 (ltb-true _ _ both.1); read = is.0 }
 
@@ -120,15 +120,15 @@ module _ {A : Type 0} where
 
   -- ---- in a loop
 
-  prefixes_append : (prefix more : List (Entry A)) (half : Half A) → with_prefix prefix (with_prefix more half) ≡ with_prefix (prefix ++ more) half
-  prefixes_append prefix more (Ok half) = ap (λ (entries : List (Entry A)). Ok (entries, half.1)) (sym (append_assoc prefix more half.0))
+  prefixes_append : (prefix more : List (RecordAt A)) (half : Half A) → with_prefix prefix (with_prefix more half) ≡ with_prefix (prefix ++ more) half
+  prefixes_append prefix more (Ok half) = ap (λ (entries : List (RecordAt A)). Ok (entries, half.1)) (sym (append_assoc prefix more half.0))
   prefixes_append prefix more (Err s) = refl
 
   pub prefix_none : (half : Half A) → with_prefix [] half ≡ half
   prefix_none (Ok half) = refl
   prefix_none (Err s) = refl
 
-  module _ (form : Form) (before : ℕ) (image : List (List ℕ)) (at end : ℕ) (prefix : List (Entry A)) (total : Half A) (lt : at < end)
+  module _ (form : Form) (before : ℕ) (image : List (List ℕ)) (at end : ℕ) (prefix : List (RecordAt A)) (total : Half A) (lt : at < end)
       (so_far : with_prefix prefix (half_of form before image at end) ≡ total) where
     first_is : (r : Found A) → record_at form before image at end ≡ r → half_of form before image at end ≡ half_on at r (following form before image end)
     first_is r e = unrolled form before image at end lt ∙ ap (λ (r : Found A). half_on at r (following form before image end)) e
@@ -140,7 +140,7 @@ module _ {A : Type 0} where
         ap (with_prefix prefix) (sym (first_is (Ok (Some (commands, next))) e)) ∙ so_far
 
     pub prefix_closed : record_at {A = A} form before image at end ≡ Ok None → total ≡ Ok (prefix, at)
-    prefix_closed e = sym so_far ∙ ap (with_prefix prefix) (first_is (Ok None) e) ∙ ap (λ (entries : List (Entry A)). Ok (entries, at)) (append-nil prefix)
+    prefix_closed e = sym so_far ∙ ap (with_prefix prefix) (first_is (Ok None) e) ∙ ap (λ (entries : List (RecordAt A)). Ok (entries, at)) (append-nil prefix)
 
     prefix_fault : (s : ℕ) → record_at {A = A} form before image at end ≡ Err s → total ≡ Err s
     prefix_fault s e = sym so_far ∙ ap (with_prefix prefix) (first_is (Err s) e)
@@ -154,6 +154,6 @@ module _ {A : Type 0} where
 
   -- ---- how many are accepted
 
-  pub counted_more : (before : ℕ) (entries : List (Entry A)) (last : Entry A) → counted before (entries ++ last ∷ []) ≡ counted before entries + length last.1
+  pub counted_more : (before : ℕ) (entries : List (RecordAt A)) (last : RecordAt A) → counted before (entries ++ last ∷ []) ≡ counted before entries + length last.1
   counted_more before [] last = refl
   counted_more before (entry ∷ entries) last = counted_more (before + length entry.1) entries last

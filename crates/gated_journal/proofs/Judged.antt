@@ -8,7 +8,7 @@ use Rattle.gated_journal.specs.declared.fault.JournalError.TheVariants.{JournalF
 use Rattle.gated_journal.specs.declared.form.Form.{Form}
 use Rattle.gated_journal.specs.Half.{Found, bytes_at, data_from, found, judged, record_at, stated_size}
 use Rattle.gated_journal.specs.Reading.{Fails, HasRecord}
-use Rattle.gated_journal.specs.Record.{most_sectors, record_of}
+use Rattle.gated_journal.specs.Record.{most_data_sectors, record_of}
 
 module _ {A : Type 0} where
   by_cases : (form : Form) (before : ℕ) (b c d : Bool) (at next : ℕ) (bytes : List ℕ)
@@ -23,7 +23,7 @@ module _ {A : Type 0} where
   unfolding record_at bytes_at
   judged_at form before image at end =
       let size = stated_size form (sector image (at + 1)) in
-      by_cases form before (eqb (slice_index (sector image at) 0) 1) (eqb (at + 1) end) (leb size most_sectors && ltb (at + 1 + size) end) at
+      by_cases form before (eqb (slice_index (sector image at) 0) 1) (eqb (at + 1) end) (leb size most_data_sectors && ltb (at + 1 + size) end) at
       (at + 1 + size) (data_from image (at + 1) (stated_size form (sector image (at + 1))))
 
   module _ (form : Form) (before : ℕ) (image : List (List ℕ)) (at end : ℕ) where

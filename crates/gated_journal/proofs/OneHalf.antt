@@ -3,7 +3,7 @@ use Rattle.std.proofs.Common.{◌≡◌, ◌≢◌, ◌⊎◌, inl, inr, ℕ, �
 use Rattle.std.proofs.lemmas.Bool.{cases_eq}
 use Rattle.centre_core.specs.Asked.{Asked}
 use Rattle.sector_disk.specs.Disk.{sector}
-use Rattle.gated_journal.specs.Half.{Entry, IsOpen, IsClosed, counted, half_of}
+use Rattle.gated_journal.specs.Half.{RecordAt, IsOpen, IsClosed, counted, half_of}
 use Rattle.gated_journal.specs.Record.{data_sector, data_size}
 use Rattle.gated_journal.specs.Settled.{IsWithOrWithout}
 use Rattle.gated_journal.specs.declared.place.Place.{Place}
@@ -21,25 +21,25 @@ closed_as : (old new : List ℕ) → new ≡ old → IsClosed old → IsClosed n
 closed_as old new same closed is = closed (ap (λ (bytes : List ℕ). slice_index bytes 0) (sym same) ∙ is)
 
 -- with one record more, so many are accepted
-pub counted_on : {A : Type 0} (place : Place) (before : ℕ) (entries : List (Entry A)) (commands : List (Asked A)) →
+pub counted_on : {A : Type 0} (place : Place) (before : ℕ) (entries : List (RecordAt A)) (commands : List (Asked A)) →
     counted before entries ≡ place.count → counted before (entries ++ (place.next + 1, commands) ∷ []) ≡ place.count + length commands
 counted_on place before entries commands counts = counted_more before entries (place.next + 1, commands) ∙ ap (λ (n : ℕ). n + length commands) counts
 
 -- where the record's text follows an open gate, it is read
-abbrev pub IsReadBack : {A : Type 0} → Place → ℕ → List (Entry A) → List (Asked A) → List ℕ → Type 0
+abbrev pub IsReadBack : {A : Type 0} → Place → ℕ → List (RecordAt A) → List (Asked A) → List ℕ → Type 0
 IsReadBack place before entries commands text =
     (image : List (List ℕ)) → IsOpen (sector image place.next) → ((k : ℕ) → k < data_size text → sector image (place.next + 1 + k) ≡ data_sector text k)
     → Opened place.form (counted before entries) image place.next place.end commands (place.next + 1 + data_size text)
 
 -- so is the text of the place's next record
-pub next_read : {A : Type 0} (place : Place) (before : ℕ) (entries : List (Entry A)) (commands : List (Asked A)) (text : List ℕ) →
+pub next_read : {A : Type 0} (place : Place) (before : ℕ) (entries : List (RecordAt A)) (commands : List (Asked A)) (text : List ℕ) →
     IsNext place commands text → counted before entries ≡ place.count → place.next + data_size text + 2 ≤ place.end →
     IsReadBack place before entries commands text
 next_read place before entries commands text is counts room image opened are =
     rw counts (record_written place.form place.count image place.next place.end commands is.number is.record_is text is.text_is opened are
     (omega (arith, room)))
 
-module _ {A : Type 0} (place : Place) (before : ℕ) (entries : List (Entry A)) (commands : List (Asked A)) (text : List ℕ)
+module _ {A : Type 0} (place : Place) (before : ℕ) (entries : List (RecordAt A)) (commands : List (Asked A)) (text : List ℕ)
     (read : IsReadBack place before entries commands text) (room : place.next + data_size text + 2 ≤ place.end) where
   -- two disks are the same in the half, but for its next gate
   abbrev pub SameBut : List (List ℕ) → List (List ℕ) → Type 0

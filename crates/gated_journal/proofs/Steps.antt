@@ -13,7 +13,7 @@ use Rattle.gated_journal.specs.Half.{bytes_at, data_from, stated_size}
 use Rattle.centre_core.specs.Asked.{Asked}
 use Rattle.command_bytes.specs.Fields.{◌>>=◌}
 use Rattle.command_bytes.specs.Reading.{first_command}
-use Rattle.gated_journal.specs.Record.{commands_in, most_sectors}
+use Rattle.gated_journal.specs.Record.{commands_in, most_data_sectors}
 use Rattle.gated_journal.proofs.Halves.{both}
 
 -- ---- sectors
@@ -37,9 +37,9 @@ no_and true false e = refl
 no_and true true (inl e) = absurd cc
 no_and true true (inr e) = absurd cc
 
-not_both : (size next end : ℕ) → (most_sectors < size) ⊎ (end ≤ next) → (leb size most_sectors && ltb next end) ≡ false
-not_both size next end (inl many) = no_and (leb size most_sectors) (ltb next end) (inl (grind (arith, nat_tests)))
-not_both size next end (inr past) = no_and (leb size most_sectors) (ltb next end) (inr (grind (arith, nat_tests)))
+not_both : (size next end : ℕ) → (most_data_sectors < size) ⊎ (end ≤ next) → (leb size most_data_sectors && ltb next end) ≡ false
+not_both size next end (inl many) = no_and (leb size most_data_sectors) (ltb next end) (inl (grind (arith, nat_tests)))
+not_both size next end (inr past) = no_and (leb size most_data_sectors) (ltb next end) (inr (grind (arith, nat_tests)))
 
 pub gate_closed : (form : Form) (image : List (List ℕ)) (at end : ℕ) → slice_index (sector image at) 0 ≢ 1 → bytes_at form image at end ≡ Ok None
 unfolding bytes_at
@@ -55,22 +55,22 @@ gate_last form image at end gate last =
     rw (a, b) refl
 
 pub too_long : (form : Form) (image : List (List ℕ)) (at end size : ℕ) → at + 1 < end → slice_index (sector image at) 0 ≡ 1 →
-    stated_size form (sector image (at + 1)) ≡ size → (most_sectors < size) ⊎ (end ≤ at + 1 + size) → bytes_at form image at end ≡ Err (at + 1)
+    stated_size form (sector image (at + 1)) ≡ size → (most_data_sectors < size) ⊎ (end ≤ at + 1 + size) → bytes_at form image at end ≡ Err (at + 1)
 unfolding bytes_at
 too_long form image at end size lt gate stated past =
     let a : eqb (slice_index (sector image at) 0) 1 ≡ true = grind (arith, nat_tests) in
     let b : eqb (at + 1) end ≡ false = grind (arith, nat_tests) in
-    let d : (leb size most_sectors && ltb (at + 1 + size) end) ≡ false = not_both size (at + 1 + size) end past in
+    let d : (leb size most_data_sectors && ltb (at + 1 + size) end) ≡ false = not_both size (at + 1 + size) end past in
     rw (a, b, stated, d) refl
 
-pub bytes_found : (form : Form) (image : List (List ℕ)) (at end size : ℕ) → size ≤ most_sectors → at + 1 + size < end →
+pub bytes_found : (form : Form) (image : List (List ℕ)) (at end size : ℕ) → size ≤ most_data_sectors → at + 1 + size < end →
     slice_index (sector image at) 0 ≡ 1 → stated_size form (sector image (at + 1)) ≡ size
     → bytes_at form image at end ≡ Ok (Some (data_from image (at + 1) size, at + 1 + size))
 unfolding bytes_at
 bytes_found form image at end size few lt gate stated =
     let a : eqb (slice_index (sector image at) 0) 1 ≡ true = grind (arith, nat_tests) in
     let b : eqb (at + 1) end ≡ false = grind (arith, nat_tests) in
-    let d : (leb size most_sectors && ltb (at + 1 + size) end) ≡ true = both size (at + 1 + size) end few lt in
+    let d : (leb size most_data_sectors && ltb (at + 1 + size) end) ≡ true = both size (at + 1 + size) end few lt in
     rw (a, b, stated, d) refl
 
 -- a byte of a part of a sector

@@ -8,7 +8,7 @@ use Rattle.sector_disk.specs.declared.disk.DiskError.{DiskError}
 use Rattle.sector_disk.proofs.Moments.{run_on, weaker, durable_image}
 use Rattle.gated_journal.specs.Inside.Filling.{HasFilledTwice}
 use Rattle.gated_journal.specs.Twice.{IsTornTwiceImage}
-use Rattle.gated_journal.specs.Half.{Entry, IsOpen, counted}
+use Rattle.gated_journal.specs.Half.{RecordAt, IsOpen, counted}
 use Rattle.gated_journal.specs.Inside.Next.{IsNext, counting}
 use Rattle.gated_journal.specs.Record.{data_sector, data_size}
 use Rattle.gated_journal.specs.Settled.{IsSettled, LeavesBoth}
@@ -38,11 +38,11 @@ other_than : (at k : ℕ) → k ≢ at → (k < at) ⊎ (at + 1 ≤ k)
 other_than at k other = elim (cases_lt k at) [ inl below ↦ inl below | inr above ↦ inr (omega (arith, above, other)) ]
 
 -- one of two halves, with what is added to it
-pub record IsAdding {A : Type 0} (place : Place) (before : ℕ) (entries : List (Entry A)) (commands : List (Asked A)) (text : List ℕ) : Type 0 where
+pub record IsAdding {A : Type 0} (place : Place) (before : ℕ) (entries : List (RecordAt A)) (commands : List (Asked A)) (text : List ℕ) : Type 0 where
   pub read : IsReadBack place before entries commands text
   pub room : place.next + data_size text + 2 ≤ place.end
 
-module _ {A : Type 0} (x y : Place) (before start : ℕ) (entries others : List (Entry A)) (commands : List (Asked A)) (text other : List ℕ)
+module _ {A : Type 0} (x y : Place) (before start : ℕ) (entries others : List (RecordAt A)) (commands : List (Asked A)) (text other : List ℕ)
     (adds : IsAdding x before entries commands text) (adds_other : IsAdding y start others commands other) (apart : AreApart x y) where
   abbrev pub Left : View → List (List ℕ) → Type 0
   Left old = LeavesBoth old x y before start entries others (x.next + 1, commands) (y.next + 1, commands)
@@ -184,7 +184,7 @@ module _ (x y : Place) (text other : List ℕ) (apart : (x.end ≤ y.first) ⊎ 
   pub gates_apart : (x.next + 1 ≤ y.next) ⊎ (y.next + 1 ≤ x.next)
   gates_apart = elim apart [ inl a ↦ inl (omega (arith, a, fits, up_also)) | inr a ↦ inr (omega (arith, a, other_fits, up)) ]
 
-pub is_adding : {A : Type 0} (place : Place) (before : ℕ) (entries : List (Entry A)) (commands : List (Asked A)) (text : List ℕ) →
+pub is_adding : {A : Type 0} (place : Place) (before : ℕ) (entries : List (RecordAt A)) (commands : List (Asked A)) (text : List ℕ) →
     IsNext place commands text → counted before entries ≡ place.count → place.next + data_size text + 2 ≤ place.end
     → IsAdding place before entries commands text
 is_adding place before entries commands text is counts room = record { read = next_read place before entries commands text is counts room; room = room }

@@ -9,7 +9,7 @@ use Rattle.centre_core.specs.Asked.{Asked}
 use Rattle.centre_core.specs.State.{last_number}
 use Rattle.command_bytes.specs.Fields.{big}
 use Rattle.command_bytes.specs.Text.{command_text, longest}
-use Rattle.gated_journal.specs.Record.{Packed, IsRecord, data_sector, data_size, first_text, head_len, most_commands, most_sectors, pack, packed_text, record_text}
+use Rattle.gated_journal.specs.Record.{Packed, IsRecord, data_sector, data_size, first_text, head_len, most_commands, most_data_sectors, pack, packed_text, record_text}
 use Rattle.gated_journal.specs.declared.form.Form.{Form}
 use Rattle.gated_journal.specs.declared.form.Form.TheVariants.{Numbered, Plain}
 use Rattle.gated_journal.specs.Half.{IsOpen, data_from, stated_size}
@@ -115,7 +115,7 @@ record_written form before image at end cs small is text text_is opened are with
     ap (stated_size form) first ∙ stated_sector form text ∙ ap (stated_size form) text_is ∙
     stated_bytes form (pack form before cs) (omega (arith, packed.short, packed.few)) (first_is form before small) in
     let size : stated_size form (sector image (at + 1)) ≡ data_size text = stated ∙ omega (arith, long, length-text form before cs) in
-    let few : data_size text ≤ most_sectors = omega (arith, long, short.1) in
+    let few : data_size text ≤ most_data_sectors = omega (arith, long, short.1) in
     let z = 512 * data_size text - length text in
     let whole : data_from image (at + 1) (data_size text) ≡ record_text form before cs ++ replicate z 0 =
     data_text image (at + 1) (data_size text) text are ∙ sym (padded text z (512 * data_size text) (omega arith)) ∙ ap (λ (t : List ℕ). t ++ replicate z 0) text_is in

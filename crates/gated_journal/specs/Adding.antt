@@ -5,7 +5,7 @@ use Rattle.centre_core.specs.Asked.{Asked}
 use Rattle.sector_disk.specs.Disk.{View}
 use Rattle.sector_disk.specs.Run.{HasCalled, HasMade, IsSameOutside, LeavesOnly}
 use Rattle.gated_journal.specs.Calls.{append_both_calls, append_calls}
-use Rattle.gated_journal.specs.Half.{Entry}
+use Rattle.gated_journal.specs.Half.{RecordAt}
 use Rattle.gated_journal.specs.Settled.{HasOneMore, HaveOneMore, IsSameOutsideBoth, IsSettled, Leaves, LeavesBoth, following_given, new_entry, text_at}
 use Rattle.gated_journal.specs.declared.fault.JournalError.{JournalError}
 use Rattle.gated_journal.specs.declared.fault.JournalError.TheVariants.{JournalFull, DiskFault, Damaged, NoMemory}
@@ -16,11 +16,11 @@ module _ {B : Type 0} (A : Type 0) where
   pub record AddsOne (old new : View) (place after : Place) (commands : List (Bor (Asked B))) (result : Result Unit JournalError) : Type 0 where
     -- A stop at any moment of the call leaves in the half the records from before the call, with the new one whole or without it.
     -- Outside the half it leaves what a stop before the call could leave.
-    pub any_moment : (before : ℕ) (entries : List (Entry A)) → old.honest → IsSettled old place before entries
+    pub any_moment : (before : ℕ) (entries : List (RecordAt A)) → old.honest → IsSettled old place before entries
         → LeavesOnly old new (Leaves old place before entries (new_entry A place commands))
     -- At `Ok` a stop after the call leaves the new record too. Nothing is pending, and all outside the half reads as before the
     -- call. `after` counts the new commands, and its next gate is the one after the new record.
-    pub acknowledged : OnOk result ((before : ℕ) (entries : List (Entry A)) → old.honest → IsSettled old place before entries
+    pub acknowledged : OnOk result ((before : ℕ) (entries : List (RecordAt A)) → old.honest → IsSettled old place before entries
         → HasOneMore new after before entries (new_entry A place commands))
     pub durable : old.honest → OnOk result ((k : ℕ) → new.pending k ≡ false)
     pub elsewhere : old.honest → OnOk result (IsSameOutside place.first place.end old new)
@@ -35,11 +35,11 @@ module _ {B : Type 0} (A : Type 0) where
       : Type 0 where
     -- A stop at any moment of the call leaves in each half the records from before the call, with the new one whole or without it.
     -- The new record may be in one half alone. Outside the two halves a stop leaves what a stop before the call could leave.
-    pub any_moment : (before start : ℕ) (entries others : List (Entry A)) → old.honest → IsSettled old x before entries → IsSettled old y start others
+    pub any_moment : (before start : ℕ) (entries others : List (RecordAt A)) → old.honest → IsSettled old x before entries → IsSettled old y start others
         → LeavesOnly old new (LeavesBoth old x y before start entries others (new_entry A x commands) (new_entry A y commands))
     -- At `Ok` a stop after the call leaves the new record in both halves. Nothing is pending, and all outside the halves reads as
     -- before the call. `x_after` and `y_after` count the new commands, and their next gates are those after the new record.
-    pub acknowledged : OnOk result ((before start : ℕ) (entries others : List (Entry A)) → old.honest
+    pub acknowledged : OnOk result ((before start : ℕ) (entries others : List (RecordAt A)) → old.honest
         → IsSettled old x before entries → IsSettled old y start others
         → HaveOneMore new x_after y_after before start entries others (new_entry A x commands) (new_entry A y commands))
     pub durable : old.honest → OnOk result ((k : ℕ) → new.pending k ≡ false)

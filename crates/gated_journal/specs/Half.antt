@@ -6,7 +6,7 @@ use Rattle.identity.specs.Numbers.{Byte}
 use Rattle.sector_disk.specs.Numbers.{Sector, Sectors}
 use Rattle.sector_disk.specs.Disk.{sector}
 use Rattle.centre_core.specs.Asked.{Asked}
-use Rattle.gated_journal.specs.Record.{most_sectors, record_of}
+use Rattle.gated_journal.specs.Record.{most_data_sectors, record_of}
 use Rattle.gated_journal.specs.declared.form.Form.{Form}
 use Rattle.gated_journal.specs.declared.form.Form.TheVariants.{Numbered, Plain}
 
@@ -34,8 +34,8 @@ data_from image at zero = []
 data_from image at (suc n) = data_from image at n ++ sector image (at + n)
 
 -- a record of a half: its first data sector and its commands, whose bits are under the allocator A
-abbrev pub Entry : Type 0 → Type 0
-Entry A = Sector × List (Asked A)
+abbrev pub RecordAt : Type 0 → Type 0
+RecordAt A = Sector × List (Asked A)
 
 -- what is at a gate: nothing, or a record and the next gate, or the sector at fault
 abbrev pub Found : Type 0 → Type 0
@@ -43,11 +43,11 @@ Found A = Result (Option (List (Asked A) × Sector)) Sector
 
 -- the records of a half and the first closed gate, or the sector at fault
 abbrev pub Half : Type 0 → Type 0
-Half A = Result (List (Entry A) × Sector) Sector
+Half A = Result (List (RecordAt A) × Sector) Sector
 
--- a record of so many data sectors fits after the gate `at`: they are at most `most_sectors`, and the next gate is before `end`
+-- a record of so many data sectors fits after the gate `at`: they are at most `most_data_sectors`, and the next gate is before `end`
 abbrev pub fits_after : Sector → Sector → Sectors → Bool
-fits_after at end size = nat_le size most_sectors && nat_lt (at + 1 + size) end
+fits_after at end size = nat_le size most_data_sectors && nat_lt (at + 1 + size) end
 
 -- What follows the open gate `at`, where a record of `size` data sectors is stated: `make size` where the record fits. A gate in
 -- the half's last sector is itself at fault. A record that does not fit is a fault of its first data sector.
@@ -83,7 +83,7 @@ module _ {A : Type 0} where
   judged form before at (Ok (Some bytes_and_next)) = found (at + 1) bytes_and_next.1 (record_of form before bytes_and_next.0)
 
   -- a half with these records before its own; a sector at fault stays
-  abbrev pub with_prefix : List (Entry A) → Half A → Half A
+  abbrev pub with_prefix : List (RecordAt A) → Half A → Half A
   with_prefix prefix (Ok half) = Ok (prefix ++ half.0, half.1)
   with_prefix prefix (Err at) = Err at
 
@@ -105,6 +105,6 @@ module _ {A : Type 0} where
   half_of form before image first end = half_from (end - first) form before image first end
 
   -- how many commands are accepted after `before` commands and those of these records
-  abbrev pub counted : ℕ → List (Entry A) → ℕ
+  abbrev pub counted : ℕ → List (RecordAt A) → ℕ
   counted before [] = before
   counted before (entry ∷ entries) = counted (before + length entry.1) entries

@@ -6,7 +6,7 @@ use Rattle.centre_core.specs.Asked.{Asked}
 use Rattle.centre_core.specs.State.{last_number}
 use Rattle.sector_disk.specs.Disk.{IsImageOf, View, sector}
 use Rattle.sector_disk.specs.Numbers.{Sector}
-use Rattle.gated_journal.specs.Half.{Entry, IsClosed, counted, half_of}
+use Rattle.gated_journal.specs.Half.{RecordAt, IsClosed, counted, half_of}
 use Rattle.gated_journal.specs.Record.{IsRecord, record_of, record_text}
 use Rattle.gated_journal.specs.Settled.{IsSettled}
 use Rattle.gated_journal.specs.declared.form.Form.{Form}
@@ -34,15 +34,15 @@ ClosedIsEmpty A disk = (first end : Sector) (before : ℕ) (form : Form) → fir
     → IsSettled {A = A} disk (record { first = first; end = end; next = first; form = form; count = before }) before []
 
 -- the half of a place reads as these records, and its first closed gate is the place's next gate
-abbrev pub ReadsUpTo : {A : Type 0} → View → Place → ℕ → List (Entry A) → Type 0
+abbrev pub ReadsUpTo : {A : Type 0} → View → Place → ℕ → List (RecordAt A) → Type 0
 ReadsUpTo disk place before entries = half_of place.form before disk.reads place.first place.end ≡ Ok (entries, place.next)
 
 -- Where nothing is pending, the half of a place holds in each image the records that it reads as up to the place's next gate.
 -- The place counts their commands too.
 abbrev pub ReadIsHeld : Type 0 → View → Type 0
-ReadIsHeld A disk = (place : Place) (before : ℕ) (entries : List (Entry A)) → place.first < place.end → place.next < place.end
+ReadIsHeld A disk = (place : Place) (before : ℕ) (entries : List (RecordAt A)) → place.first < place.end → place.next < place.end
     → counted before entries ≡ place.count → ((k : ℕ) → disk.pending k ≡ false) → ReadsUpTo disk place before entries → IsSettled disk place before entries
 
 -- what a half holds in each image of an honest disk is what it reads as
 abbrev pub HeldIsRead : Type 0 → View → Type 0
-HeldIsRead A disk = (place : Place) (before : ℕ) (entries : List (Entry A)) → disk.honest → IsSettled disk place before entries → ReadsUpTo disk place before entries
+HeldIsRead A disk = (place : Place) (before : ℕ) (entries : List (RecordAt A)) → disk.honest → IsSettled disk place before entries → ReadsUpTo disk place before entries

@@ -4,8 +4,8 @@ use Rattle.identity.specs.Numbers.{Byte}
 use Rattle.centre_core.specs.Asked.{Asked}
 use Rattle.sector_disk.specs.Numbers.{Sector}
 use Rattle.sector_disk.specs.Disk.{View}
-use Rattle.gated_journal.specs.Half.{Entry, Found, Half, counted, half_of, record_at}
-use Rattle.gated_journal.specs.Settled.{IsCounted, half_in}
+use Rattle.gated_journal.specs.Half.{RecordAt, Found, Half, counted, half_of, record_at}
+use Rattle.gated_journal.specs.Settled.{HasNumbersLeft, half_in}
 use Rattle.gated_journal.specs.declared.form.Form.{Form}
 use Rattle.gated_journal.specs.declared.place.Place.{Place}
 use Rattle.gated_journal.specs.declared.record.Record.{Record}
@@ -52,11 +52,11 @@ module _ {A : Type 0} where
   stated_view stated = (stated.first, stated.commands.items)
 
   -- a record that was read, with its first data sector
-  abbrev pub entry_view : Sector × Vec (Asked A) A → Entry A
+  abbrev pub entry_view : Sector × Vec (Asked A) A → RecordAt A
   entry_view x = (x.0, x.1.items)
 
   -- records that were read, in order, each with its first data sector
-  abbrev pub entries_view : List (Sector × Vec (Asked A) A) → List (Entry A)
+  abbrev pub entries_view : List (Sector × Vec (Asked A) A) → List (RecordAt A)
   entries_view xs = map entry_view xs
 
   -- what was read at a gate: nothing, or a record's commands and this gate after it; the record's first data sector is left out
@@ -64,14 +64,14 @@ module _ {A : Type 0} where
   next_view gate found = option_map (λ x. (x.1.items, gate)) found
 
   -- what was read from a gate on: the records, and the next gate of the place or journal that continues after them
-  abbrev pub half_view : Place × Vec (Sector × Vec (Asked A) A) A → List (Entry A) × Sector
+  abbrev pub half_view : Place × Vec (Sector × Vec (Asked A) A) A → List (RecordAt A) × Sector
   half_view x = (entries_view x.1.items, x.0.next)
 
   -- ---- where a journal is after what was read
 
   -- `after` is where a journal at `place` continues after these records. Both have the same half and the same form. The next gate of
   -- `after` is that of `place` or a later one, before the half's end. `after` counts the commands of these records too.
-  pub record Continues (place after : Place) (entries : List (Entry A)) : Type 0 where
+  pub record Continues (place after : Place) (entries : List (RecordAt A)) : Type 0 where
     pub first : after.first ≡ place.first
     pub end : after.end ≡ place.end
     pub form : after.form ≡ place.form
@@ -87,7 +87,7 @@ module _ {A : Type 0} where
     pub end : after.end ≡ place.end
     pub form : after.form ≡ place.form
     pub count : IfOk result (λ found. IfSome found (λ x. after.count ≡ place.count + length x.1.items))
-    pub counted : IsCounted after
+    pub counted : HasNumbersLeft after
     pub next : after.next < place.end
     pub closed : IfOk result (λ found. IfNone found (after ≡ place))
 
@@ -103,7 +103,7 @@ module _ {A : Type 0} where
   -- What a judgement states of `is`, which is what a half reads as. At `Ok` there are records alone, up to a closed gate. An error
   -- is as `Fails` states.
   abbrev pub AreJudged : Result Unit JournalError → Half A → Type 0
-  AreJudged (Ok u) is = (held : List (Entry A) × Sector) × (is ≡ Ok held)
+  AreJudged (Ok u) is = (held : List (RecordAt A) × Sector) × (is ≡ Ok held)
   AreJudged (Err e) is = Fails e is
 
 -- the disk has had `times` more calls in `new` than in `old`
@@ -118,7 +118,7 @@ HasRecord A form before image at end = (x : List (Asked A) × Sector) × (record
 
 -- from the gate `at` on there are records alone, up to a closed gate
 abbrev pub HasRecords : Type 0 → Form → ℕ → List (List Byte) → Sector → Sector → Type 0
-HasRecords A form before image at end = (held : List (Entry A) × Sector) × (half_of form before image at end ≡ Ok held)
+HasRecords A form before image at end = (held : List (RecordAt A) × Sector) × (half_of form before image at end ≡ Ok held)
 
 -- a record is at the next gate of a place, as the disk reads
 abbrev pub HasRecordIn : Type 0 → Place → View → Type 0
@@ -135,4 +135,4 @@ IsUnreadOrWhole A place old new = (new.calls ≡ old.calls) ⊎ HasRecordsIn A p
 -- If there are records alone from the next gate of a place on, a closed gate follows them. The disk has then had as many calls as
 -- there are sectors from the one gate to the other, both included.
 abbrev pub IsReadOnce : Type 0 → Place → View → View → Type 0
-IsReadOnce A place old new = (held : List (Entry A) × Sector) → half_in A place old ≡ Ok held → HasCalledTimes old new (held.1 + 1 - place.next)
+IsReadOnce A place old new = (held : List (RecordAt A) × Sector) → half_in A place old ≡ Ok held → HasCalledTimes old new (held.1 + 1 - place.next)

@@ -18,8 +18,8 @@ abbrev pub most_commands : ℕ
 most_commands = 64
 
 -- the most data sectors that a record may have: as many as `most_commands` commands of the greatest length take
-abbrev pub most_sectors : Sectors
-most_sectors = 36
+abbrev pub most_data_sectors : Sectors
+most_data_sectors = 36
 
 -- commands as bytes: how many, the number of the first one where the record states it, and their bytes in order
 pub record Packed : Type 0 where

@@ -8,7 +8,7 @@ use Rattle.sector_disk.specs.Disk.{View, IsImageOf, sector}
 use Rattle.sector_disk.specs.Run.{IsTornImage}
 use Rattle.gated_journal.specs.Twice.{IsTornTwiceImage}
 use Rattle.gated_journal.specs.Record.{data_size, given, most_commands, record_text}
-use Rattle.gated_journal.specs.Half.{Entry, Found, Half, counted, half_of, record_at}
+use Rattle.gated_journal.specs.Half.{RecordAt, Found, Half, counted, half_of, record_at}
 use Rattle.gated_journal.specs.declared.place.Place.{Place}
 
 -- how many data sectors the next record may have
@@ -20,7 +20,7 @@ abbrev pub text_at : {B : Type 0} (A : Type 0) → Place → List (Bor (Asked B)
 text_at A place commands = record_text place.form place.count (given A commands)
 
 -- a record of these commands at the next gate, with its first data sector
-abbrev pub new_entry : {B : Type 0} (A : Type 0) → Place → List (Bor (Asked B)) → Entry A
+abbrev pub new_entry : {B : Type 0} (A : Type 0) → Place → List (Bor (Asked B)) → RecordAt A
 new_entry A place commands = (place.next + 1, given A commands)
 
 -- the place after a record of these commands
@@ -57,46 +57,46 @@ IsSameOutsideBoth x y old new = (k : ℕ) → (k < x.first) ⊎ (x.end ≤ k) �
 
 -- The place's count, plus 64 for each sector from the next gate up to the half's end, fits 8 bytes. So the number of each command
 -- that may come after the next gate fits too.
-abbrev pub IsCounted : Place → Type 0
-IsCounted place = place.count + most_commands * (place.end - place.next) < 2 ^ 64
+abbrev pub HasNumbersLeft : Place → Type 0
+HasNumbersLeft place = place.count + most_commands * (place.end - place.next) < 2 ^ 64
 
 module _ {A : Type 0} where
   -- In this image the half of a place, after so many accepted commands, reads as these records.
-  abbrev pub IsHalf : List (List Byte) → Place → ℕ → List (Entry A) → Type 0
+  abbrev pub IsHalf : List (List Byte) → Place → ℕ → List (RecordAt A) → Type 0
   IsHalf image place before entries = (gate : Sector) × (half_of place.form before image place.first place.end ≡ Ok (entries, gate))
 
   -- in this image the half of a place reads as these records, with one more after them or without it
-  abbrev pub IsWithOrWithout : Place → ℕ → List (Entry A) → Entry A → List (List Byte) → Type 0
+  abbrev pub IsWithOrWithout : Place → ℕ → List (RecordAt A) → RecordAt A → List (List Byte) → Type 0
   IsWithOrWithout place before entries last image = IsHalf image place before entries ⊎ IsHalf image place before (entries ++ last ∷ [])
 
   -- Outside the half the image is one of the old disk. The half reads as these records, with `last` after them or without it.
-  pub record Leaves (old : View) (place : Place) (before : ℕ) (entries : List (Entry A)) (last : Entry A) (image : List (List Byte)) : Type 0 where
+  pub record Leaves (old : View) (place : Place) (before : ℕ) (entries : List (RecordAt A)) (last : RecordAt A) (image : List (List Byte)) : Type 0 where
     pub elsewhere : IsTornImage old place.first (place.end - place.first) image
     pub half : IsWithOrWithout place before entries last image
 
   -- In every image the half, after `before` accepted commands, reads as these records. They end at the place's next gate. The
   -- place counts `before` commands and those of the records.
-  pub record IsSettled (disk : View) (place : Place) (before : ℕ) (entries : List (Entry A)) : Type 0 where
+  pub record IsSettled (disk : View) (place : Place) (before : ℕ) (entries : List (RecordAt A)) : Type 0 where
     pub begins : place.first < place.end
     pub within : place.next < place.end
     pub counts : counted before entries ≡ place.count
     pub half : (image : List (List Byte)) → IsImageOf disk image → half_of place.form before image place.first place.end ≡ Ok (entries, place.next)
 
   -- in every image the half of a place reads as these records and one more after them, as `IsSettled` states
-  abbrev pub HasOneMore : View → Place → ℕ → List (Entry A) → Entry A → Type 0
+  abbrev pub HasOneMore : View → Place → ℕ → List (RecordAt A) → RecordAt A → Type 0
   HasOneMore disk place before entries last = IsSettled disk place before (entries ++ last ∷ [])
 
   -- In every image the half of x reads as `entries` after `before` accepted commands. The half of y reads as `others` after `start`.
-  abbrev pub AreSettled : View → Place → Place → ℕ → ℕ → List (Entry A) → List (Entry A) → Type 0
+  abbrev pub AreSettled : View → Place → Place → ℕ → ℕ → List (RecordAt A) → List (RecordAt A) → Type 0
   AreSettled disk x y before start entries others = IsSettled disk x before entries × IsSettled disk y start others
 
   -- in every image the halves of x and y read as with `AreSettled`, and each has one more record: `last` in x, `other` in y
-  abbrev pub HaveOneMore : View → Place → Place → ℕ → ℕ → List (Entry A) → List (Entry A) → Entry A → Entry A → Type 0
+  abbrev pub HaveOneMore : View → Place → Place → ℕ → ℕ → List (RecordAt A) → List (RecordAt A) → RecordAt A → RecordAt A → Type 0
   HaveOneMore disk x y before start entries others last other = AreSettled disk x y before start (entries ++ last ∷ []) (others ++ other ∷ [])
 
   -- Outside the halves of x and y the image is one of the old disk. Each half reads as its records, with its new record (`last` in
   -- x, `other` in y) after them or without it. One half may have its new record and the other not.
-  pub record LeavesBoth (old : View) (x y : Place) (before start : ℕ) (entries others : List (Entry A)) (last other : Entry A)
+  pub record LeavesBoth (old : View) (x y : Place) (before start : ℕ) (entries others : List (RecordAt A)) (last other : RecordAt A)
       (image : List (List Byte)) : Type 0 where
     pub elsewhere : IsTornTwiceImage old x.first (x.end - x.first) y.first (y.end - y.first) image
     pub half : IsWithOrWithout x before entries last image

@@ -15,7 +15,7 @@ use std::alloc::Allocator;
 // The first `sectors` sectors of a text, and the sector `at` of the disk where they are to be written. `padded` is the text with
 // zeros after it.
 #[derive(Drop)]
-struct Run<'a> {
+struct SectorRun<'a> {
     at: u64,
     sectors: u64,
     text: &'a [u8],
@@ -23,7 +23,11 @@ struct Run<'a> {
 }
 
 // Writes two runs of sectors, one after the other, and syncs them.
-fn settle_both<D: Disk>(disk: &mut D, first: &Run<'_>, second: &Run<'_>) -> Result<(), DiskError>
+fn settle_both<D: Disk>(
+    disk: &mut D,
+    first: &SectorRun<'_>,
+    second: &SectorRun<'_>,
+) -> Result<(), DiskError>
     requires room { first.now.at + first.now.sectors ≤ (D.view disk.old).sectors }
     requires other_room { second.now.at + second.now.sectors ≤ (D.view disk.old).sectors }
     requires fits { first.now.at + first.now.sectors < 2 ^ 64 }
@@ -75,13 +79,13 @@ pub(crate) fn append_texts<A: Allocator, D: Disk>(
     // Both texts, each with the gate after it, closed. Then the gates of both records, open.
     settle_both(
         disk,
-        &Run {
+        &SectorRun {
             at: place.next + 1,
             sectors: size + 1,
             text,
             padded,
         },
-        &Run {
+        &SectorRun {
             at: other.next + 1,
             sectors: other_size + 1,
             text: other_text,
@@ -90,13 +94,13 @@ pub(crate) fn append_texts<A: Allocator, D: Disk>(
     )?;
     settle_both(
         disk,
-        &Run {
+        &SectorRun {
             at: place.next,
             sectors: 1,
             text: &[1],
             padded: &[1],
         },
-        &Run {
+        &SectorRun {
             at: other.next,
             sectors: 1,
             text: &[1],

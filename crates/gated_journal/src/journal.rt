@@ -15,8 +15,8 @@ ghost use Rattle.gated_journal.specs.Inside.Filling.{IsPadded};
 ghost use Rattle.gated_journal.specs.Inside.Room.{capacity, text_room};
 ghost use Rattle.gated_journal.specs.Reading.{Answers, AreJudged, Continues, HasCalledTimes, HasRecordIn, IsOfJudging, IsOfReading, IsUnreadOrWhole, MovesOn};
 ghost use Rattle.gated_journal.specs.Reading.{IsReadOnce, entries_view, half_view, next_view};
-ghost use Rattle.gated_journal.specs.Record.{data_size, first_text, given, most_commands, most_sectors, record_text};
-ghost use Rattle.gated_journal.specs.Settled.{IsCounted, half_in, record_in, room_of, text_at};
+ghost use Rattle.gated_journal.specs.Record.{data_size, first_text, given, most_commands, most_data_sectors, record_text};
+ghost use Rattle.gated_journal.specs.Settled.{HasNumbersLeft, half_in, record_in, room_of, text_at};
 
 use crate::both::append_texts;
 use crate::place::sectors_for;
@@ -116,7 +116,7 @@ impl<A: Allocator> Journal<A> {
     pub fn has_room<B: Allocator>(&self, commands: &[&Command<B>]) -> bool
         requires few { length commands.now ≤ most_commands }
         ensures exact { result ≡ nat_le (data_size (text_at A self.now commands.now)) (room_of self.now) }
-        ensures most { (form : Form) (before : ℕ) → data_size (record_text form before (given A commands.now)) ≤ most_sectors }
+        ensures most { (form : Form) (before : ℕ) → data_size (record_text form before (given A commands.now)) ≤ most_data_sectors }
     {
         let bytes = self.place.form.head_len() + size_of(commands) as u64;
         sectors_for(bytes) <= self.place.room()
@@ -212,7 +212,7 @@ impl<A: Allocator> Journal<A> {
     pub fn judge_rest<D: Disk>(&mut self, disk: &mut D) -> Result<(), JournalError>
         requires before { self.old.next < self.old.end }
         requires within { self.old.end ≤ (D.view disk.old).sectors }
-        requires counts { IsCounted self.old }
+        requires counts { HasNumbersLeft self.old }
 
         // It answers what the disk reads as, and stays where it is.
         ensures exact { (D.view disk.old).honest → AreJudged result (half_in A self.old (D.view disk.old)) }
@@ -240,7 +240,7 @@ impl<A: Allocator + Clone> Journal<A> {
     ) -> Result<Option<(u64, Vec<Command<A>, A>)>, JournalError>
         requires before { self.old.next < self.old.end }
         requires within { self.old.end ≤ (D.view disk.old).sectors }
-        requires counts { IsCounted self.old }
+        requires counts { HasNumbersLeft self.old }
 
         // It returns the record that the disk reads as. Out of memory never masks damage.
         ensures exact { (D.view disk.old).honest → Answers (next_view self.new.next) result (record_in A self.old (D.view disk.old)) }
@@ -281,7 +281,7 @@ impl<A: Allocator + Copy> Journal<A> {
         requires up { place.first ≤ place.next }
         requires some { place.next < place.end }
         requires within { place.end ≤ (D.view disk.old).sectors }
-        requires counts { IsCounted place }
+        requires counts { HasNumbersLeft place }
 
         // It returns the records that the disk reads as. Out of memory never masks damage.
         ensures exact { (D.view disk.old).honest → Answers half_view result (half_in A place (D.view disk.old)) }
@@ -348,7 +348,7 @@ fn put_record<A: Allocator, B: Allocator>(
     place: &Place,
     commands: &[&Command<B>],
 )
-    requires room { 512 * most_sectors ≤ capacity out.old }
+    requires room { 512 * most_data_sectors ≤ capacity out.old }
     requires next { IsCountOfNext place.now (length commands.now) }
     ensures items { out.new.items ≡ text_at A place.now commands.now }
     ensures next { IsNext place.now (given A commands.now) out.new.items }

@@ -8,7 +8,7 @@ ghost use Rattle.sector_disk.specs.Effects.{OnlyReads};
 ghost use Rattle.sector_disk.specs.declared.disk.DiskError.TheVariants.{OutOfRange};
 ghost use Rattle.gated_journal.specs.declared.fault.JournalError.TheVariants.{NoMemory};
 ghost use Rattle.gated_journal.specs.Half.{stated_size};
-ghost use Rattle.gated_journal.specs.Inside.Reading.{GivesBytes, HoldsMore, IsPast, IsToRead, Reads, sectors_to};
+ghost use Rattle.gated_journal.specs.Inside.Reading.{GivesBytes, HoldsMore, IsPast, IsToRead, ReadsInto, sectors_to};
 ghost use Rattle.gated_journal.specs.Inside.Room.{capacity};
 ghost use Rattle.gated_journal.specs.Reading.{Answers, AreJudged, Continues, HasCalledTimes, HasRecordIn, HasRecordsIn, IsJudged, IsOfJudging, IsOfReading, IsReadOnce};
 ghost use Rattle.gated_journal.specs.Reading.{entries_view, found_view, half_view};
@@ -78,7 +78,7 @@ fn read_data<A: Allocator, D: Disk>(
     buffer: &mut RecordText<A>,
 ) -> Result<Option<u64>, JournalError>
     requires gate { IsToRead (D.view disk.old) place.now buffer.old }
-    ensures reads { Reads (D.view disk.old) (D.view disk.new) buffer.old buffer.new result
+    ensures reads { ReadsInto (D.view disk.old) (D.view disk.new) buffer.old buffer.new result
         (GivesBytes (D.view disk.old) place.now buffer.new result) }
     ensures calls { IfOk result (λ found. HasCalledTimes (D.view disk.old) (D.view disk.new) (sectors_to place.now found)) }
     ensures on { IfOk result (λ found. IfSome found (λ next. IsPast place.now 0 next)) }
@@ -115,7 +115,7 @@ pub(crate) fn read_record<A: Allocator + Clone, D: Disk>(
     buffer: &mut RecordText<A>,
 ) -> Result<Option<(Vec<Command<A>, A>, u64)>, JournalError>
     requires gate { IsToRead (D.view disk.old) place.now buffer.old }
-    ensures reads { Reads (D.view disk.old) (D.view disk.new) buffer.old buffer.new result
+    ensures reads { ReadsInto (D.view disk.old) (D.view disk.new) buffer.old buffer.new result
         (Answers found_view result (record_in A place.now (D.view disk.old))) }
     ensures memory { IsErrOf result JournalError.NoMemory → (D.view disk.old).honest → HasRecordIn A place.now (D.view disk.old) }
     ensures calls { IfOk result (λ found. HasCalledTimes (D.view disk.old) (D.view disk.new) (sectors_to place.now (option_map (λ x. x.1) found))) }
@@ -139,7 +139,7 @@ fn judge_record<A: Allocator, D: Disk>(
     buffer: &mut RecordText<A>,
 ) -> Result<Option<(u64, u64)>, JournalError>
     requires gate { IsToRead (D.view disk.old) place.now buffer.old }
-    ensures reads { Reads (D.view disk.old) (D.view disk.new) buffer.old buffer.new result
+    ensures reads { ReadsInto (D.view disk.old) (D.view disk.new) buffer.old buffer.new result
         (IsJudged result (record_in A place.now (D.view disk.old))) }
     ensures calls { IfOk result (λ found. HasCalledTimes (D.view disk.old) (D.view disk.new) (sectors_to place.now (option_map (λ x. x.1) found))) }
     ensures on { IfOk result (λ found. IfSome found (λ x. IsPast place.now x.0 x.1)) }
@@ -162,7 +162,7 @@ fn read_half<A: Allocator + Clone, D: Disk>(
     buffer: &mut RecordText<A>,
 ) -> Result<(Place, Vec<(u64, Vec<Command<A>, A>), A>), JournalError>
     requires half { IsToRead (D.view disk.old) place.now buffer.old }
-    ensures reads { Reads (D.view disk.old) (D.view disk.new) buffer.old buffer.new result
+    ensures reads { ReadsInto (D.view disk.old) (D.view disk.new) buffer.old buffer.new result
         (Answers half_view result (half_in A place.now (D.view disk.old))) }
     ensures continues { IfOk result (λ x. Continues place.now x.0 (entries_view x.1.items)) }
     ensures kinds { IfErr result (IsOfReading place.now.end) }
@@ -184,7 +184,7 @@ pub(crate) fn judge_half<A: Allocator, D: Disk>(
     buffer: &mut RecordText<A>,
 ) -> Result<(), JournalError>
     requires half { IsToRead (D.view disk.old) place.now buffer.old }
-    ensures reads { Reads (D.view disk.old) (D.view disk.new) buffer.old buffer.new result
+    ensures reads { ReadsInto (D.view disk.old) (D.view disk.new) buffer.old buffer.new result
         (AreJudged result (half_in A place.now (D.view disk.old))) }
     ensures calls { (D.view disk.old).honest → OnOk result (IsReadOnce A place.now (D.view disk.old) (D.view disk.new)) }
     ensures kinds { IfErr result (IsOfJudging place.now.end) }
@@ -206,7 +206,7 @@ pub(crate) fn read_or_judge<A: Allocator + Clone, D: Disk>(
     buffer: &mut RecordText<A>,
 ) -> Result<(Place, Vec<(u64, Vec<Command<A>, A>), A>), JournalError>
     requires half { IsToRead (D.view disk.old) place.now buffer.old }
-    ensures reads { Reads (D.view disk.old) (D.view disk.new) buffer.old buffer.new result
+    ensures reads { ReadsInto (D.view disk.old) (D.view disk.new) buffer.old buffer.new result
         (Answers half_view result (half_in A place.now (D.view disk.old))) }
     ensures memory { IsErrOf result JournalError.NoMemory → (D.view disk.old).honest → HasRecordsIn A place.now (D.view disk.old) }
     ensures continues { IfOk result (λ x. Continues place.now x.0 (entries_view x.1.items)) }

@@ -126,7 +126,7 @@ fn commands_in<A: Allocator + Clone>(
 }
 
 // The commands of a record, or `None` where its bytes are not as many as it states. `AllocError` comes only where they are.
-fn whole<A: Allocator + Clone>(
+fn decode_all<A: Allocator + Clone>(
     alloc: A,
     packed: &Packed<'_>,
 ) -> Result<Option<Vec<Command<A>, A>>, AllocError>
@@ -175,7 +175,7 @@ pub fn decode_record<A: Allocator + Clone>(
     let Some(packed) = packed_of(form, bytes) else {
         return Ok(None);
     };
-    let Some(commands) = whole(alloc, &packed)? else {
+    let Some(commands) = decode_all(alloc, &packed)? else {
         return Ok(None);
     };
     Ok(Some(Record {
@@ -199,7 +199,7 @@ pub(crate) fn decode_next<A: Allocator + Clone>(
     ensures memory { OnErr result (IsSome (record_of {A = A} form before bytes.now)) }
 {
     match packed_of(form, bytes) {
-        Some(packed) if follows(before, packed.first) => whole(alloc, &packed),
+        Some(packed) if follows(before, packed.first) => decode_all(alloc, &packed),
         _ => Ok(None),
     }
 }

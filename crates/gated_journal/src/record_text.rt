@@ -3,11 +3,11 @@ ghost use Rattle.std.specs.Prelude.{◌≡◌, ◌≤◌, ◌+◌, ◌-◌, ◌*
 ghost use Rattle.bytes.specs.Filled.{Filled};
 ghost use Rattle.command_bytes.specs.Text.{IsCommand, command_text};
 ghost use Rattle.gated_journal.specs.Inside.Room.{capacity, text_room};
-ghost use Rattle.gated_journal.specs.Record.{data_size, most_sectors};
+ghost use Rattle.gated_journal.specs.Record.{data_size, most_data_sectors};
 
 use bytes::BytesMut;
 use centre_core::Command;
-use command_bytes::Room;
+use command_bytes::ByteSink;
 use std::alloc::{AllocError, Allocator};
 use std::marker::Model;
 
@@ -67,7 +67,7 @@ impl<A: Allocator> RecordText<A> {
 
     // Adds zeros to the end of the text's last sector, and for one sector more. Returns how many bytes the text has.
     pub(crate) fn pad(&mut self) -> usize
-        requires few { length self.old.items ≤ 512 * most_sectors }
+        requires few { length self.old.items ≤ 512 * most_data_sectors }
         requires room { text_room ≤ capacity self.old }
         ensures len { result ≡ length self.old.items }
         ensures items { self.new.items ≡ self.old.items ++ replicate (512 * (data_size self.old.items + 1) - length self.old.items) 0 }
@@ -91,7 +91,7 @@ impl<A: Allocator> RecordText<A> {
     }
 }
 
-impl<A: Allocator> Room for RecordText<A> {
+impl<A: Allocator> ByteSink for RecordText<A> {
     ghost held = { λ (text : Filled). text.items };
 
     ghost room = { λ (text : Filled). text.spare };

@@ -1,7 +1,7 @@
 //! One record added to two halves of a disk. They are those of the worked disk: from 589 and from 628, 39 sectors each. The
 //! records of the second half state the number of their first command.
 ghost use Rattle.std.specs.Prelude.{◌≡◌, ◌≤◌, ◌<◌, length};
-ghost use Rattle.gated_journal.specs.Settled.{IsCounted};
+ghost use Rattle.gated_journal.specs.Settled.{HasNumbersLeft};
 ghost use Rattle.gated_journal.specs.declared.form.Form.TheVariants.{Numbered, Plain};
 
 use crate::made;
@@ -88,7 +88,7 @@ fn eleven<D: Disk>(
 fn last_of<D: Disk>(alloc: Global, disk: &mut D, place: Place) -> Option<(usize, u64, usize)>
     requires up { place.first ≤ place.next }
     requires some { place.next < place.end }
-    requires counts { IsCounted place }
+    requires counts { HasNumbersLeft place }
 {
     if disk.sectors() < place.end {
         return None;

@@ -112,7 +112,7 @@ impl<A: Allocator> AttachmentList<A> {
     }
 
     /// The list without what this ends, or `None` if it is then empty. It takes no memory.
-    pub(crate) fn ended(mut self, itsi: Itsi, ending: Ending) -> Option<Self>
+    pub(crate) fn without_ended(mut self, itsi: Itsi, ending: Ending) -> Option<Self>
         ensures { result ≡ unless_empty (ended self itsi ending) }
     {
         match ending {

@@ -208,14 +208,14 @@ impl<A: Allocator + Clone> Groups<A> {
         if attachments.len() > MOST_OF_RADIO {
             return Err(GroupFault::TooManyGroups);
         }
-        let Ok(list) = self.listed(attachments) else {
+        let Ok(list) = self.list_of(attachments) else {
             return Err(GroupFault::NoMemory);
         };
         self.replace(itsi, list).or(Err(GroupFault::NoMemory))
     }
 
     // A list of these attachments, in memory of its own.
-    fn listed(&self, attachments: &[Attachment]) -> Result<AttachmentList<A>, AllocError>
+    fn list_of(&self, attachments: &[Attachment]) -> Result<AttachmentList<A>, AllocError>
         requires { IsInOrder attachments.now }
         ensures { IfOk result (λ list. list ≡ map_of attachments.now) }
     {

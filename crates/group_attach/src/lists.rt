@@ -151,5 +151,5 @@ fn end_under<A: Allocator>(
 )
     ensures { lists.new ≡ placed lists.old path.now (ended (under lists.old path.now) itsi ending) }
 {
-    let _ = lists.change(path, |list| ((), list.ended(itsi, ending)));
+    let _ = lists.change(path, |list| ((), list.without_ended(itsi, ending)));
 }

@@ -88,7 +88,7 @@ impl<'a> ReadItem<'a> {
     }
 
     // Does nothing. Its clause says that the PDU fits the key.
-    pub(crate) fn hold_known(&self)
+    pub(crate) fn facts_of_known(&self)
         ensures { is_as_named self.now ≡ true }
     {
         let _number = self.item.number;

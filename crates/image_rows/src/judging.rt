@@ -164,7 +164,7 @@ pub fn mail_may<A: Allocator + Clone>(
     requires { IsHeld header.now parts.now }
     ensures { result ≡ mail_may header.now parts.now item.now }
 {
-    item.hold_known();
+    item.facts_of_known();
     if !before_place(header, parts, item) {
         return false;
     }

@@ -187,7 +187,7 @@ fn put_mail<A: Allocator + Clone>(
     }
 }
 
-fn copied<A: Allocator + Clone>(
+fn copy_pdu<A: Allocator + Clone>(
     alloc: &A,
     pdu: &Option<PackedBits<'_>>,
 ) -> Result<Option<Bits<A>>, AllocError>
@@ -230,7 +230,7 @@ fn put_served<A: Allocator + Clone>(
     if !served_may(header, parts, station, last.number) {
         return Ok(false);
     }
-    let pdu = copied(&parts.alloc, &last.pdu)?;
+    let pdu = copy_pdu(&parts.alloc, &last.pdu)?;
     let last = LastAccepted {
         sequence: last.sequence,
         number: last.number,

@@ -2,7 +2,7 @@
 ghost use Rattle.std.specs.Prelude.{◌≡◌, ◌≤◌, ◌+◌, ◌-◌, ◌++◌, [], length, take, drop};
 ghost use Rattle.image_rows.specs.RowText.{padded};
 
-use command_bytes::Room;
+use command_bytes::ByteSink;
 use std::marker::Model;
 
 /// Bytes at the start of a sector, with zeros after them.
@@ -49,7 +49,7 @@ impl SectorText {
     }
 }
 
-impl Room for SectorText {
+impl ByteSink for SectorText {
     ghost use Rattle.std.specs.Prelude.{◌-◌, length};
 
     ghost held = { λ s. s };

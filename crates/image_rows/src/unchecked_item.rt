@@ -23,7 +23,7 @@ pub struct UncheckedItem<'a> {
 }
 
 // The group of a copy, and the bytes after it; no group where the item is no copy.
-fn copied(is_copy: bool, bytes: &[u8]) -> Option<(Option<Gtsi>, &[u8])>
+fn group_of_copy(is_copy: bool, bytes: &[u8]) -> Option<(Option<Gtsi>, &[u8])>
     ensures { option_map (λ x. (x.0, x.1.now)) result ≡ copied_at is_copy bytes.now }
 {
     if !is_copy {
@@ -44,7 +44,7 @@ pub fn item(is_copy: bool, bytes: &[u8]) -> Option<(UncheckedItem<'_>, &[u8])>
     let Some((key, rest)) = key(rest) else {
         return None;
     };
-    let Some((group, rest)) = copied(is_copy, rest) else {
+    let Some((group, rest)) = group_of_copy(is_copy, rest) else {
         return None;
     };
     let (pdu, rest) = bits(rest)?;

@@ -14,7 +14,7 @@ ghost use Rattle.image_rows.specs.RowText.{group_in, mail_tag, present_number, r
 use crate::sector::SectorText;
 use crate::{HEADER_TAG, Header};
 use centre_core::Sequence;
-use command_bytes::Room;
+use command_bytes::ByteSink;
 use command_bytes::put::{put_bits, put_key, put_number, put_prefix, put_rule};
 use group_attach::Attachment;
 use identity::{Bits, Gtsi, Itsi, Prefix};
@@ -23,7 +23,7 @@ use registration::{Radio, Rule, Station};
 use std::alloc::Allocator;
 
 #[tactic(auto, using(std::proofs::Common::append_assoc))]
-fn put_header<R: Room>(out: &mut R, header: &Header)
+fn put_header<R: ByteSink>(out: &mut R, header: &Header)
     requires room { 32 ≤ R.room out.old }
     ensures held { R.held out.new ≡ R.held out.old ++ header_text header.now }
     ensures room { R.room out.old ≤ R.room out.new + 32 }
@@ -60,7 +60,7 @@ pub fn rule_row(prefix: &Prefix, rule: &Rule) -> [u8; 512]
 }
 
 #[tactic(auto, using(std::proofs::Common::append_assoc))]
-fn put_group<R: Room>(out: &mut R, group: &Attachment)
+fn put_group<R: ByteSink>(out: &mut R, group: &Attachment)
     requires room { 7 ≤ R.room out.old }
     ensures held { R.held out.new ≡ R.held out.old ++ group_text (group_in group.now) }
     ensures room { R.room out.old ≤ R.room out.new + 7 }
@@ -70,7 +70,7 @@ fn put_group<R: Room>(out: &mut R, group: &Attachment)
     put_number(out, 1, usage);
 }
 
-fn put_groups<R: Room>(out: &mut R, groups: &[Attachment])
+fn put_groups<R: ByteSink>(out: &mut R, groups: &[Attachment])
     requires room { 7 * length groups.now ≤ R.room out.old }
     ensures held { R.held out.new ≡ R.held out.old ++ flat_map group_text (map group_in groups.now) }
 {
@@ -80,7 +80,7 @@ fn put_groups<R: Room>(out: &mut R, groups: &[Attachment])
 }
 
 #[tactic(auto, using(std::proofs::Common::append_assoc))]
-fn put_radio<R: Room>(out: &mut R, itsi: Itsi, radio: &Radio, groups: &[Attachment])
+fn put_radio<R: ByteSink>(out: &mut R, itsi: Itsi, radio: &Radio, groups: &[Attachment])
     requires few { length groups.now ≤ most_of_radio }
     requires room { 12 + 7 * length groups.now ≤ R.room out.old }
     ensures held { R.held out.new ≡ R.held out.old ++ radio_text itsi radio.now (map group_in groups.now) }
@@ -114,7 +114,7 @@ fn tag_of(group: Option<Gtsi>) -> u64
     }
 }
 
-fn put_copied<R: Room>(out: &mut R, group: Option<Gtsi>)
+fn put_copied<R: ByteSink>(out: &mut R, group: Option<Gtsi>)
     requires room { 6 ≤ R.room out.old }
     ensures held { R.held out.new ≡ R.held out.old ++ copied_text group }
     ensures room { R.room out.old ≤ R.room out.new + 6 }
@@ -125,7 +125,7 @@ fn put_copied<R: Room>(out: &mut R, group: Option<Gtsi>)
 }
 
 #[tactic(auto, using(std::proofs::Common::append_assoc))]
-fn put_item<R: Room, A: Allocator>(out: &mut R, item: &Item<A>)
+fn put_item<R: ByteSink, A: Allocator>(out: &mut R, item: &Item<A>)
     requires few { length item.now.pdu ≤ most_bits }
     requires room { 38 + bytes_for (length item.now.pdu) ≤ R.room out.old }
     ensures held { R.held out.new ≡ R.held out.old ++ item_text item.now }
@@ -150,7 +150,7 @@ pub fn mail_row<A: Allocator>(item: &Item<A>) -> [u8; 512]
 }
 
 #[tactic(auto, using(crate::proofs::Written::no_bits))]
-fn put_reply<R: Room, A: Allocator>(out: &mut R, pdu: &Option<Bits<A>>)
+fn put_reply<R: ByteSink, A: Allocator>(out: &mut R, pdu: &Option<Bits<A>>)
     requires few { IsShort pdu.now }
     requires room { 258 ≤ R.room out.old }
     ensures held { R.held out.new ≡ R.held out.old ++ bits_text (reply_bits pdu.now) }

@@ -23,7 +23,7 @@ use Rattle.centre_core.specs.State.{State, IsState}
 use Rattle.centre_core.specs.StateRanges.{StateInRange}
 use Rattle.listings.specs.declared.listing.Table.{Table}
 use Rattle.listings.specs.declared.listing.Table.TheVariants as table
-use Rattle.listings.specs.declared.walk.Place.{Place}
+use Rattle.listings.specs.declared.walk.TablePlace.{TablePlace}
 use Rattle.listings.specs.Entries.{Entry, ItemEntry, is_under, rule_entry, radio_entry, waits_at, entries_of}
 use Rattle.listings.specs.Inside.Walking.{entry_after, place_of}
 use Rattle.listings.proofs.Under.{all_under}
@@ -123,14 +123,14 @@ entries_fit s state ranges (table.WaitingAt station) =
 
 module _ (s : State) (table : Table) where
   -- the entries after a place, of which so many turns have passed
-  unfoldable pub left : ℕ → Option Place → List Entry
+  unfoldable pub left : ℕ → Option TablePlace → List Entry
   left k after = one_by_one (entry_after s table) place_of (turns - k) after
 
   pub all_left : IsState s → StateInRange s → left 0 None ≡ entries_of s table
   unfolding left
   all_left state ranges = entries_walk s state ranges table turns (entries_fit s state ranges table)
 
-  pub one_left : (k : ℕ) (after : Option Place) (e : Entry) (place : Place) → k < turns → Some e ≡ entry_after s table after → place ≡ place_of e
+  pub one_left : (k : ℕ) (after : Option TablePlace) (e : Entry) (place : TablePlace) → k < turns → Some e ≡ entry_after s table after → place ≡ place_of e
       → left k after ≡ e ∷ left (k + 1) (Some place)
   unfolding left
   one_left k after e place more is at =
@@ -139,7 +139,7 @@ module _ (s : State) (table : Table) where
       ∙ ap (then_on (λ x. one_by_one (entry_after s table) place_of (turns - (k + 1)) (Some (place_of x)))) (sym is)
       ∙ ap (λ p. e ∷ one_by_one (entry_after s table) place_of (turns - (k + 1)) (Some p)) (sym at)
 
-  pub none_left : (k : ℕ) (after : Option Place) → None ≡ entry_after s table after → left k after ≡ []
+  pub none_left : (k : ℕ) (after : Option TablePlace) → None ≡ entry_after s table after → left k after ≡ []
   unfolding left
   none_left k after is = by (turns - k)
     where
@@ -147,6 +147,6 @@ module _ (s : State) (table : Table) where
       by zero = refl
       by (suc n) = ap (then_on (λ x. one_by_one (entry_after s table) place_of n (Some (place_of x)))) (sym is)
 
-  pub out_of_turns : (k : ℕ) (after : Option Place) → turns ≤ k → left k after ≡ []
+  pub out_of_turns : (k : ℕ) (after : Option TablePlace) → turns ≤ k → left k after ≡ []
   unfolding left
   out_of_turns k after done = let n : turns - k ≡ 0 = omega (arith, done) in ap (λ (m : ℕ). one_by_one (entry_after s table) place_of m after) n

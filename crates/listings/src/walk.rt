@@ -19,7 +19,7 @@ use std::alloc::Allocator;
 
 /// Where an entry is in its table.
 #[derive(Clone, Copy)]
-pub(crate) enum Place {
+pub(crate) enum TablePlace {
     Rule(Prefix),
     Radio(Itsi),
     Item(u64, Key),
@@ -38,13 +38,13 @@ impl<'r, B: Allocator> Entry<'r, B> {
     ghost use Rattle.listings.specs.Inside.Walking.{entry_of, place_of};
 
     /// Where it is in its table.
-    pub(crate) fn place(&self) -> Place
+    pub(crate) fn place(&self) -> TablePlace
         ensures { result ≡ place_of (entry_of self.now) }
     {
         match self {
-            Entry::Rule(prefix, _) => Place::Rule(*prefix),
-            Entry::Radio(itsi, _) => Place::Radio(*itsi),
-            Entry::Item(item) => Place::Item(item.number(), item.key()),
+            Entry::Rule(prefix, _) => TablePlace::Rule(*prefix),
+            Entry::Radio(itsi, _) => TablePlace::Radio(*itsi),
+            Entry::Item(item) => TablePlace::Item(item.number(), item.key()),
         }
     }
 }
@@ -177,13 +177,17 @@ fn next_waiting<'r, B: Allocator + Clone>(
 fn waiting_after<'r, B: Allocator + Clone>(
     register: &'r Register<B>,
     station: Station,
-    after: &Option<Place>,
+    after: &Option<TablePlace>,
 ) -> Option<Entry<'r, B>>
     ensures { option_map entry_of result ≡ entry_after register.now (WaitingAt station) after.now }
 {
     match after {
         None => next_waiting(register, station, None),
-        Some(Place::Item(number, key)) => next_waiting(register, station, Some((*number, *key))),
+        Some(TablePlace::Item(number, key)) => next_waiting(
+            register,
+            station,
+            Some((*number, *key)),
+        ),
         Some(_) => None,
     }
 }
@@ -192,7 +196,7 @@ fn waiting_after<'r, B: Allocator + Clone>(
 pub(crate) fn entry_after<'r, B: Allocator + Clone>(
     register: &'r Register<B>,
     table: &Table,
-    after: Option<Place>,
+    after: Option<TablePlace>,
 ) -> Option<Entry<'r, B>>
     ensures { option_map entry_of result ≡ entry_after register.now table.now after }
 {
@@ -200,22 +204,25 @@ pub(crate) fn entry_after<'r, B: Allocator + Clone>(
     match table {
         Table::Rules => match &after {
             None => next_rule(register.registry(), None),
-            Some(Place::Rule(prefix)) => next_rule(register.registry(), Some(*prefix)),
+            Some(TablePlace::Rule(prefix)) => next_rule(register.registry(), Some(*prefix)),
             Some(_) => None,
         },
         Table::Radios(under) => match &after {
             None => next_radio(register.registry(), under, None),
-            Some(Place::Radio(itsi)) => next_radio(register.registry(), under, Some(*itsi)),
+            Some(TablePlace::Radio(itsi)) => next_radio(register.registry(), under, Some(*itsi)),
             Some(_) => None,
         },
         Table::Items => match &after {
             None => next_item(register.mail(), None),
-            Some(Place::Item(number, key)) => next_item(register.mail(), Some((*number, *key))),
+            Some(TablePlace::Item(number, key)) => next_item(
+                register.mail(),
+                Some((*number, *key)),
+            ),
             Some(_) => None,
         },
         Table::Due(moment) => match &after {
             None => next_due(register.mail(), *moment, None),
-            Some(Place::Item(number, key)) => {
+            Some(TablePlace::Item(number, key)) => {
                 next_due(register.mail(), *moment, Some((*number, *key)))
             }
             Some(_) => None,

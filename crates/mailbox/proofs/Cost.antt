@@ -4,7 +4,7 @@ use Rattle.std.specs.Prelude.{◌*◌, ◌/◌, is_some}
 use Rattle.std.specs.Option.{option_copied}
 use Rattle.std.proofs.Math.Nat.{mul-le-mul_left, mul-suc}
 use Rattle.std.proofs.lemmas.List.{length-map}
-use Rattle.mailbox.specs.declared.place.Place.{Place}
+use Rattle.mailbox.specs.declared.place.ItemPlace.{ItemPlace}
 use Rattle.mailbox.specs.Values.{Item, Mailed}
 use Rattle.mailbox.specs.Order.{place_of}
 use Rattle.mailbox.specs.Cost.{IsAboveAll}
@@ -12,7 +12,7 @@ use Rattle.mailbox.specs.Inside.Boxes.{Boxes, AreFiled}
 use Rattle.mailbox.specs.Inside.Places.{IsAbove}
 
 -- what is above a tree of all items is above the tree of their places
-pub above_order : (ws : List Item) (boxes : Boxes) (order : List Place) (m : Mailed) (height : ℕ) → AreFiled ws boxes order → ws ≡ m.items → IsAboveAll height m → IsAbove height order
+pub above_order : (ws : List Item) (boxes : Boxes) (order : List ItemPlace) (m : Mailed) (height : ℕ) → AreFiled ws boxes order → ws ≡ m.items → IsAboveAll height m → IsAbove height order
 above_order ws boxes order m height filed is above =
     subst (λ (n : ℕ). n + 1 < 2 ^ (height / 2)) (sym (ap length filed.indexed ∙ length-map ws place_of ∙ ap length is)) above
 

@@ -4,7 +4,7 @@ use Rattle.std.specs.Prelude.{not, ◌&&◌}
 use Rattle.std.specs.List.{AllPairs, filter, find}
 use Rattle.std.specs.Option.{option_map}
 use Rattle.std.proofs.lemmas.Bool.{false≢true, not-true}
-use Rattle.mailbox.specs.declared.place.Place.{Place}
+use Rattle.mailbox.specs.declared.place.ItemPlace.{ItemPlace}
 use Rattle.mailbox.specs.Values.{Item}
 use Rattle.mailbox.specs.Item.{same_key, is_at, is_expired}
 use Rattle.mailbox.specs.Order.{place_of}
@@ -21,7 +21,7 @@ module _ (ws : List Item) (moment : ℕ) where
   pub none_expired : None ≡ option_map place_of (find (is_expired moment) ws) → filter (λ w. not (is_expired moment w)) ws ≡ ws
   none_expired none = filter_all (is_expired moment) ws (never_found (is_expired moment) ws (no_item (find (is_expired moment) ws) none))
 
-  module _ (apart : AllPairs (λ a b. same_key b.key a.key ≡ false) ws) (p : Place) (first : Some p ≡ option_map place_of (find (is_expired moment) ws)) where
+  module _ (apart : AllPairs (λ a b. same_key b.key a.key ≡ false) ws) (p : ItemPlace) (first : Some p ≡ option_map place_of (find (is_expired moment) ws)) where
     the_item : OfItem p (find (is_expired moment) ws)
     the_item = of_item p (find (is_expired moment) ws) first
 
@@ -46,7 +46,7 @@ module _ (ws : List Item) (moment : ℕ) where
         (also_expired v (find_each (λ a b. same_key a.key b.key) (λ x. key_itself x.key) ws apart i d below))))
 
     key_is : w.key ≡ p.key
-    key_is = ap (λ (q : Place). q.key) the_item.1.1
+    key_is = ap (λ (q : ItemPlace). q.key) the_item.1.1
 
     -- with the first that has expired gone, the same are left of those that have not
     pub same_left : filter (λ v. not (is_expired moment v)) (filter (λ v. not (is_at p.key v)) ws) ≡ filter (λ v. not (is_expired moment v)) ws

@@ -14,7 +14,7 @@ use Rattle.std.proofs.lemmas.List.Quantifiers.{all_pairs_push}
 use Rattle.base.proofs.Bools.{same_truth, is_equal}
 use Rattle.identity.specs.Path.{path_cmp, id_path}
 use Rattle.mailbox.specs.declared.key.Key.{Key}
-use Rattle.mailbox.specs.declared.place.Place.{Place}
+use Rattle.mailbox.specs.declared.place.ItemPlace.{ItemPlace}
 use Rattle.mailbox.specs.Values.{Item}
 use Rattle.mailbox.specs.Item.{same_key, is_at, is_to, is_expired}
 use Rattle.mailbox.specs.Order.{IsBefore, named, place_of}
@@ -29,7 +29,7 @@ abbrev pub unwrap_or_item : Item → Option Item → Item
 unwrap_or_item d None = d
 unwrap_or_item d (Some w) = w
 
-pub none_filed : (boxes : Boxes) (order : List Place) → boxes ≡ finite.empty → order ≡ [] → AreFiled [] boxes order
+pub none_filed : (boxes : Boxes) (order : List ItemPlace) → boxes ≡ finite.empty → order ≡ [] → AreFiled [] boxes order
 none_filed boxes order empty none = record {
   boxed = λ p. ap (λ b. finite.get b p) empty ∙ get-empty path_cmp p;
   indexed = none;
@@ -39,21 +39,21 @@ none_filed boxes order empty none = record {
 }
 
 -- the index gives the items
-pub found_each : (ws : List Item) (boxes : Boxes) (order : List Place) → AreFiled ws boxes order → All (λ w. item_at boxes w.key ≡ Some w) ws
+pub found_each : (ws : List Item) (boxes : Boxes) (order : List ItemPlace) → AreFiled ws boxes order → All (λ w. item_at boxes w.key ≡ Some w) ws
 found_each ws boxes order filed =
     All-weaker (λ w. find (is_at w.key) ws ≡ Some w) (λ w. item_at boxes w.key ≡ Some w)
     (λ w found. ap (find (is_at w.key)) (items_boxed ws boxes (id_path w.key.destination) filed.boxed) ∙
     find_within (is_at w.key) (is_under (id_path w.key.destination)) (at_is_under w.key) ws ∙ found)
     ws (find_each (λ a b. same_key a.key b.key) (λ w. key_itself w.key) ws filed.apart)
 
-pub filed_in_order : (ws : List Item) (boxes : Boxes) (order : List Place) → AreFiled ws boxes order → in_order boxes order ≡ ws
+pub filed_in_order : (ws : List Item) (boxes : Boxes) (order : List ItemPlace) → AreFiled ws boxes order → in_order boxes order ≡ ws
 filed_in_order ws boxes order filed = ap (in_order boxes) filed.indexed ∙ looked_up place_of (λ place. item_at boxes place.key) ws (found_each ws boxes order filed)
 
-pub filed_again : (ws : List Item) (boxes : Boxes) (order : List Place) → AreFiled ws boxes order → AreFiled (in_order boxes order) boxes order
+pub filed_again : (ws : List Item) (boxes : Boxes) (order : List ItemPlace) → AreFiled ws boxes order → AreFiled (in_order boxes order) boxes order
 filed_again ws boxes order filed = subst (λ os. AreFiled os boxes order) (sym (filed_in_order ws boxes order filed)) filed
 
 -- the box of a destination has its items
-pub filed_waiting : (ws : List Item) (boxes : Boxes) (order : List Place) (destination : ℕ) → AreFiled ws boxes order → destination < 2 ^ 48 →
+pub filed_waiting : (ws : List Item) (boxes : Boxes) (order : List ItemPlace) (destination : ℕ) → AreFiled ws boxes order → destination < 2 ^ 48 →
     items_under boxes (id_path destination) ≡ filter (is_to destination) ws
 filed_waiting ws boxes order destination filed below =
     items_boxed ws boxes (id_path destination) filed.boxed
@@ -69,18 +69,18 @@ none_boxed [] = refl
 none_boxed (w ∷ ws) = sym (not_zero (length ws))
 
 -- there is no box of a destination for which nothing waits
-pub first_filed : (ws : List Item) (boxes : Boxes) (order : List Place) (destination : ℕ) → AreFiled ws boxes order → destination < 2 ^ 48 →
+pub first_filed : (ws : List Item) (boxes : Boxes) (order : List ItemPlace) (destination : ℕ) → AreFiled ws boxes order → destination < 2 ^ 48 →
     (length (filter (is_to destination) ws) == 0) ≡ is_none (finite.get boxes (id_path destination))
 first_filed ws boxes order destination filed below =
     ap (λ (os : List Item). length os == 0) (sym (filed_waiting ws boxes order destination filed below) ∙ items_boxed ws boxes (id_path destination) filed.boxed)
     ∙ sym (ap is_none (filed.boxed (id_path destination)) ∙ none_boxed (filter (is_under (id_path destination)) ws))
 
 -- a destination's box has the item at a key where the item waits
-pub filed_holds : (ws : List Item) (boxes : Boxes) (order : List Place) (k : Key) → AreFiled ws boxes order → is_filed boxes k ≡ list_any (is_at k) ws
+pub filed_holds : (ws : List Item) (boxes : Boxes) (order : List ItemPlace) (k : Key) → AreFiled ws boxes order → is_filed boxes k ≡ list_any (is_at k) ws
 filed_holds ws boxes order k filed = ap (list_any (is_at k)) (items_boxed ws boxes (id_path k.destination) filed.boxed) ∙ any_within (is_at k) (is_under (id_path k.destination)) (at_is_under k) ws
 
 -- one key's item goes
-pub filed_removed : (ws : List Item) (boxes new : Boxes) (order left : List Place) (k : Key) → AreFiled ws boxes order →
+pub filed_removed : (ws : List Item) (boxes new : Boxes) (order left : List ItemPlace) (k : Key) → AreFiled ws boxes order →
     new ≡ swept boxes (id_path k.destination) (is_at k) → left ≡ filter (λ place. not (same_key k place.key)) order →
     AreFiled (filter (λ w. not (is_at k w)) ws) new left
 filed_removed ws boxes new order left k filed swept_so left_so = record {
@@ -96,7 +96,7 @@ filed_removed ws boxes new order left k filed swept_so left_so = record {
 }
 
 -- one item more, after all others, in place of any at its key
-pub filed_put : (ws : List Item) (boxes new : Boxes) (order longer : List Place) (w : Item) → AreFiled ws boxes order → All (λ o. IsBefore o w) ws →
+pub filed_put : (ws : List Item) (boxes new : Boxes) (order longer : List ItemPlace) (w : Item) → AreFiled ws boxes order → All (λ o. IsBefore o w) ws →
     w.key.destination < 2 ^ 48 → new ≡ put boxes w → longer ≡ filter (λ place. not (same_key w.key place.key)) order ++ place_of w ∷ [] →
     AreFiled (put_last ws w) new longer
 filed_put ws boxes new order longer w filed last below put_so longer_so =
@@ -116,19 +116,19 @@ pub no_item : (o : Option Item) → None ≡ option_map place_of o → o ≡ Non
 no_item None e = refl
 no_item (Some w) e = absurd cc
 
-abbrev place_or : Place → Option Place → Place
+abbrev place_or : ItemPlace → Option ItemPlace → ItemPlace
 place_or d None = d
 place_or d (Some p) = p
 
-abbrev pub OfItem : Place → Option Item → Type 0
+abbrev pub OfItem : ItemPlace → Option Item → Type 0
 OfItem p o = (w : Item) × ((o ≡ Some w) × (place_of w ≡ p))
 
-pub of_item : (p : Place) (o : Option Item) → Some p ≡ option_map place_of o → OfItem p o
+pub of_item : (p : ItemPlace) (o : Option Item) → Some p ≡ option_map place_of o → OfItem p o
 of_item p None e = absurd cc
 of_item p (Some w) e = (w, (refl, sym (ap (place_or p) e)))
 
 -- an item's place, among those of all
-module _ (ws : List Item) (boxes : Boxes) (order : List Place) (k : Key) (filed : AreFiled ws boxes order) where
+module _ (ws : List Item) (boxes : Boxes) (order : List ItemPlace) (k : Key) (filed : AreFiled ws boxes order) where
   abbrev same_item : Item → Item → Bool
   same_item v w = same_place (place_of v) (place_of w)
 
@@ -191,7 +191,7 @@ module _ (ws : List Item) (boxes : Boxes) (order : List Place) (k : Key) (filed 
   none_left_out none =
       filed.indexed ∙ sym (ap (filter (λ place. not (same_key k place.key))) filed.indexed ∙ filter_mapped place_of (λ place. not (same_key k place.key)) ws ∙ ap (map place_of) (none_deleted none))
 
-  module _ (p : Place) (at : Some p ≡ option_map place_of (item_at boxes k)) where
+  module _ (p : ItemPlace) (at : Some p ≡ option_map place_of (item_at boxes k)) where
     the_item : OfItem p (item_at boxes k)
     the_item = of_item p (item_at boxes k) at
 
@@ -207,10 +207,10 @@ pub none_placed : (test : Item → Bool) (ws : List Item) → None ≡ option_ma
 none_placed test ws none = any_of_none test ws (never_found test ws (no_item (find test ws) none))
 
 -- the first place whose item has ended is that of the first item that has
-pub first_expired : (ws : List Item) (boxes : Boxes) (order : List Place) (moment : ℕ) → AreFiled ws boxes order → find (is_due moment) order ≡ option_map place_of (find (is_expired moment) ws)
+pub first_expired : (ws : List Item) (boxes : Boxes) (order : List ItemPlace) (moment : ℕ) → AreFiled ws boxes order → find (is_due moment) order ≡ option_map place_of (find (is_expired moment) ws)
 first_expired ws boxes order moment filed = ap (find (is_due moment)) filed.indexed ∙ find_mapped place_of (is_due moment) ws
 
-module _ (ws : List Item) (boxes new : Boxes) (order longer : List Place) (w : Item) (p : Place) (filed : AreFiled ws boxes order)
+module _ (ws : List Item) (boxes new : Boxes) (order longer : List ItemPlace) (w : Item) (p : ItemPlace) (filed : AreFiled ws boxes order)
     (last : All (λ o. IsBefore o w) ws) (below : w.key.destination < 2 ^ 48) (put_so : new ≡ put boxes w) (is : p ≡ place_of w) where
   -- an item at a key at which none was
   pub filed_put_free : list_any (is_at w.key) ws ≡ false → longer ≡ order ++ p ∷ [] → AreFiled (ws ++ w ∷ []) new longer
@@ -221,7 +221,7 @@ module _ (ws : List Item) (boxes new : Boxes) (order longer : List Place) (w : I
       subst (λ os. AreFiled (os ++ w ∷ []) new longer) alone (filed_put ws boxes new order longer w filed last below put_so (longer_so ∙ (λ i. sym same i ++ is i ∷ [])))
 
   -- an item in the place of another
-  pub filed_put_again : (old : Place) → Some old ≡ option_map place_of (item_at boxes p.key) →
+  pub filed_put_again : (old : ItemPlace) → Some old ≡ option_map place_of (item_at boxes p.key) →
       longer ≡ filter (λ place. not (same_place old place)) order ++ p ∷ [] → AreFiled (put_last ws w) new longer
   filed_put_again old at longer_so =
       filed_put ws boxes new order longer w filed last below put_so

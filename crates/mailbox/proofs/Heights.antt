@@ -6,7 +6,7 @@ use Rattle.std.proofs.Math.Nat.{pow-suc, max-le}
 use Rattle.std.proofs.Math.Pow.{pow_mono}
 use Rattle.std.proofs.lemmas.Bool.{ltb-true, ltb-false}
 use Rattle.std.proofs.lemmas.List.{length-append}
-use Rattle.mailbox.specs.declared.place.Place.{Place}
+use Rattle.mailbox.specs.declared.place.ItemPlace.{ItemPlace}
 use Rattle.mailbox.specs.Inside.Places.{Branch, soonest, places_of, height_of, all_of, IsLow, IsNode}
 
 step : (k a b m n : ℕ) → k ≤ a / 2 + 1 → k ≤ b / 2 + 1 → IsLow a m → IsLow b n → 2 ^ k ≤ (m + suc n) + 1
@@ -41,15 +41,15 @@ found_cost true new old height above most cost = omega (arith, most, cost)
 found_cost false new old height above most cost = cost
 
 -- no moment comes after the last number of 64 bits
-most : (places : List Place) → soonest places ≤ 18446744073709551615
+most : (places : List ItemPlace) → soonest places ≤ 18446744073709551615
 most [] = omega arith
 most (p ∷ places) = let h = most places in grind (arith, h)
 
-pub soonest-append : (xs ys : List Place) → soonest (xs ++ ys) ≡ min (soonest xs) (soonest ys)
+pub soonest-append : (xs ys : List ItemPlace) → soonest (xs ++ ys) ≡ min (soonest xs) (soonest ys)
 soonest-append [] ys = let h = most ys in grind (arith, h)
 soonest-append (x ∷ xs) ys = let h = soonest-append xs ys in grind (arith, h)
 
-module _ {A : Type 0} (p : Place) (e l : Option (Box Branch A)) where
+module _ {A : Type 0} (p : ItemPlace) (e l : Option (Box Branch A)) where
   pub counted : length (all_of p e l) ≡ length (places_of e) + suc (length (places_of l))
   counted = length-append (places_of e) (p ∷ places_of l)
 

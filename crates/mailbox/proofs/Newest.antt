@@ -7,7 +7,7 @@ use Rattle.std.proofs.lemmas.List.Elements.{All-head, All-tail}
 use Rattle.std.proofs.Math.Seq.{take-append_seam}
 use Rattle.identity.specs.Path.{id_path}
 use Rattle.mailbox.specs.declared.key.Key.{Key}
-use Rattle.mailbox.specs.declared.place.Place.{Place}
+use Rattle.mailbox.specs.declared.place.ItemPlace.{ItemPlace}
 use Rattle.mailbox.specs.Values.{Item}
 use Rattle.mailbox.specs.Item.{same_key, is_at}
 use Rattle.mailbox.specs.Inside.Boxes.{Boxes, swept, AreFiled}
@@ -16,23 +16,23 @@ use Rattle.mailbox.proofs.Lists.{pairs_head, pairs_tail, filter_mapped}
 use Rattle.mailbox.proofs.Keys.{key_itself}
 use Rattle.mailbox.proofs.Filing.{filed_removed}
 
-first_or : Place → List Place → Place
+first_or : ItemPlace → List ItemPlace → ItemPlace
 first_or d [] = d
 first_or d (p ∷ ps) = p
 
-others : List Place → List Place
+others : List ItemPlace → List ItemPlace
 others [] = []
 others (p ∷ ps) = ps
 
 -- items whose places end in a place end in its item
-record EndsIn (ws : List Item) (left : List Place) (last : Place) : Type 0 where
+record EndsIn (ws : List Item) (left : List ItemPlace) (last : ItemPlace) : Type 0 where
   prefix : List Item
   item : Item
   is : ws ≡ prefix ++ item ∷ []
   placed : map place_of prefix ≡ left
   at : place_of item ≡ last
 
-ends_in : (ws : List Item) (left : List Place) (last : Place) → map place_of ws ≡ left ++ last ∷ [] → EndsIn ws left last
+ends_in : (ws : List Item) (left : List ItemPlace) (last : ItemPlace) → map place_of ws ≡ left ++ last ∷ [] → EndsIn ws left last
 unfolding first_or others
 ends_in [] [] last e = absurd cc
 ends_in [] (l ∷ left) last e = absurd cc
@@ -60,7 +60,7 @@ prefix_of ws xs x is =
     ap (λ n. take n ws) shorter ∙ ap (take (length xs)) is ∙ take-append_seam xs (x ∷ [])
 
 -- the newest item goes
-pub filed_dropped : (ws : List Item) (boxes new : Boxes) (order left : List Place) (last : Place) → AreFiled ws boxes order →
+pub filed_dropped : (ws : List Item) (boxes new : Boxes) (order left : List ItemPlace) (last : ItemPlace) → AreFiled ws boxes order →
     order ≡ left ++ last ∷ [] → new ≡ swept boxes (id_path last.key.destination) (is_at last.key) → AreFiled (take (length ws - 1) ws) new left
 filed_dropped ws boxes new order left last filed ended swept_so =
     let end : EndsIn ws left last = ends_in ws left last (sym filed.indexed ∙ ended) in

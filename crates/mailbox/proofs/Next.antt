@@ -10,13 +10,13 @@ use Rattle.std.proofs.lemmas.Cmp.{nat_list_cmp_total}
 use Rattle.std.proofs.Math.ListN.{get_or-map}
 use Rattle.std.proofs.lemmas.List.{length-append, length-map, get_or-append-add}
 use Rattle.mailbox.specs.declared.key.Key.{Key}
-use Rattle.mailbox.specs.declared.place.Place.{Place}
+use Rattle.mailbox.specs.declared.place.ItemPlace.{ItemPlace}
 use Rattle.mailbox.specs.Values.{Item, Mailed}
 use Rattle.mailbox.specs.Order.{place_at, IsBefore, ComesLast, place_of}
 use Rattle.mailbox.specs.Inside.Places.{EndsWith}
 
 -- the place is before this number and key
-abbrev IsUnder : ℕ → Key → Place → Type 0
+abbrev IsUnder : ℕ → Key → ItemPlace → Type 0
 IsUnder number k p = slice_cmp nat_cmp (place_at p.number p.key) (place_at number k) ≡ Less
 
 -- the last of these, or one before it
@@ -27,8 +27,8 @@ by_test k n false e below = inl (let same : k ≡ n = grind (arith, nat_tests) i
 last_or_before : (k n : ℕ) → k < n → (k ≡ n - 1) ⊎ (k < n - 1)
 last_or_before k n below = by_test k (n - 1) (nat_lt k (n - 1)) refl (omega (arith, below))
 
-module _ (ws : List Item) (order : List Place) (last : Place) (number : ℕ) (k : Key) (indexed : order ≡ map place_of ws) (some : 0 < length order)
-    (is : (d : Place) → last ≡ get_or order (length order - 1) d) where
+module _ (ws : List Item) (order : List ItemPlace) (last : ItemPlace) (number : ℕ) (k : Key) (indexed : order ≡ map place_of ws) (some : 0 < length order)
+    (is : (d : ItemPlace) → last ≡ get_or order (length order - 1) d) where
   -- it is the place of the last item
   last_place : (d : Item) → last ≡ place_of (get_or ws (length ws - 1) d)
   last_place d =
@@ -52,8 +52,8 @@ module _ (ws : List Item) (order : List Place) (last : Place) (number : ℕ) (k 
       subst (IsUnder number k) (sym (last_place d)) (all (length ws - 1) d (omega (arith, some, counted)))
 
 -- what is under the last is under all
-pub next_to : (m : Mailed) (ws : List Item) (order : List Place) (last : Place) (number : ℕ) (k : Key) (b : Bool) → ws ≡ m.items →
-    order ≡ map place_of ws → AllPairs IsBefore ws → 0 < length order → ((d : Place) → last ≡ get_or order (length order - 1) d) →
+pub next_to : (m : Mailed) (ws : List Item) (order : List ItemPlace) (last : ItemPlace) (number : ℕ) (k : Key) (b : Bool) → ws ≡ m.items →
+    order ≡ map place_of ws → AllPairs IsBefore ws → 0 < length order → ((d : ItemPlace) → last ≡ get_or order (length order - 1) d) →
     (IsTrue b ↔ IsUnder number k last) → IsTrue b ↔ ComesLast m number k
 next_to m [] order last number k b these indexed ordered some is tested = absurd (omega (arith, some, ap length indexed))
 next_to m (w ∷ ws) order last number k b these indexed ordered some is tested = subst (λ os. IsTrue b ↔ All (λ o. IsUnder number k (place_of o)) os) these (
@@ -62,7 +62,7 @@ next_to m (w ∷ ws) order last number k b these indexed ordered some is tested 
 )
 
 -- the same, of the place that all of them end with
-pub next_to_last : (m : Mailed) (ws : List Item) (order : List Place) (last : Place) (number : ℕ) (k : Key) (b : Bool) → ws ≡ m.items →
+pub next_to_last : (m : Mailed) (ws : List Item) (order : List ItemPlace) (last : ItemPlace) (number : ℕ) (k : Key) (b : Bool) → ws ≡ m.items →
     order ≡ map place_of ws → AllPairs IsBefore ws → EndsWith order (Some last) → (IsTrue b ↔ IsUnder number k last) → IsTrue b ↔ ComesLast m number k
 next_to_last m ws order last number k b these indexed ordered ends tested =
     let counted : length order ≡ length ends.0 + 1 = ap length ends.1 ∙ length-append ends.0 (last ∷ []) in

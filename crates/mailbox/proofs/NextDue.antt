@@ -5,7 +5,7 @@ use Rattle.std.specs.List.{filter, find}
 use Rattle.base.proofs.Lists.{found_all}
 use Rattle.prefix_tree.specs.Following.{is_after, next_of}
 use Rattle.mailbox.specs.declared.key.Key.{Key}
-use Rattle.mailbox.specs.declared.place.Place.{Place}
+use Rattle.mailbox.specs.declared.place.ItemPlace.{ItemPlace}
 use Rattle.mailbox.specs.Values.{Item}
 use Rattle.mailbox.specs.Item.{is_expired}
 use Rattle.mailbox.specs.Order.{named_cmp, named, place_of}
@@ -26,7 +26,7 @@ module _ {X : Type 0} (p q : X → Bool) where
   find_filtered (x ∷ xs) = one_filtered (q x) x (filter q xs) (find (λ y. q y && p y) xs) (find_filtered xs)
 
 -- the item at the first such place is the first such item
-pub next_due_filed : (ws : List Item) (boxes : Boxes) (order : List Place) (moment : ℕ) (after : Option (ℕ × Key)) (o : Option Place) →
+pub next_due_filed : (ws : List Item) (boxes : Boxes) (order : List ItemPlace) (moment : ℕ) (after : Option (ℕ × Key)) (o : Option ItemPlace) →
     AreFiled ws boxes order → o ≡ find (is_due_after moment after) order → at_place boxes o ≡ next_of named_cmp named (filter (is_expired moment) ws)
     after
 next_due_filed ws boxes order moment after o filed first =

@@ -7,17 +7,17 @@ use Rattle.std.proofs.lemmas.List.{length-map}
 use Rattle.base.proofs.Lists.{found_all}
 use Rattle.prefix_tree.specs.Following.{is_after, next_of, AreRising}
 use Rattle.mailbox.specs.declared.key.Key.{Key}
-use Rattle.mailbox.specs.declared.place.Place.{Place}
+use Rattle.mailbox.specs.declared.place.ItemPlace.{ItemPlace}
 use Rattle.mailbox.specs.Values.{Item}
 use Rattle.mailbox.specs.Order.{named_cmp, named, place_of}
 use Rattle.mailbox.specs.Inside.Boxes.{Boxes, item_at, name_of, AreFiled}
 use Rattle.mailbox.proofs.Filing.{found_each}
 
 -- an item with this place
-abbrev item_with : Place → Item
+abbrev item_with : ItemPlace → Item
 item_with p = record { key = p.key; number = p.number; deadline = p.deadline; pdu = []; group = None }
 
-pub places_rise : (ws : List Item) (order : List Place) → order ≡ map place_of ws → AreRising named_cmp named ws → AreRising named_cmp name_of order
+pub places_rise : (ws : List Item) (order : List ItemPlace) → order ≡ map place_of ws → AreRising named_cmp named ws → AreRising named_cmp name_of order
 places_rise ws order is rise = subst (AreRising named_cmp name_of) (sym is) mapped
   where
     mapped : AreRising named_cmp name_of (map place_of ws)
@@ -39,7 +39,7 @@ next_mapped after (w ∷ ws) =
     by false = refl
 
 -- the item at a place, if there is a place
-abbrev pub at_place : Boxes → Option Place → Option Item
+abbrev pub at_place : Boxes → Option ItemPlace → Option Item
 at_place boxes None = None
 at_place boxes (Some p) = item_at boxes p.key
 
@@ -47,7 +47,7 @@ pub looked_up : (boxes : Boxes) (o : Option Item) → IfSome o (λ w. item_at bo
 looked_up boxes None there = refl
 looked_up boxes (Some w) there = there
 
-pub next_filed : (ws : List Item) (boxes : Boxes) (order : List Place) (after : Option (ℕ × Key)) (o : Option Place) → AreFiled ws boxes order →
+pub next_filed : (ws : List Item) (boxes : Boxes) (order : List ItemPlace) (after : Option (ℕ × Key)) (o : Option ItemPlace) → AreFiled ws boxes order →
     o ≡ next_of named_cmp name_of order after → at_place boxes o ≡ next_of named_cmp named ws after
 next_filed ws boxes order after o filed is =
     ap (at_place boxes) (is ∙ ap (λ places. next_of named_cmp name_of places after) filed.indexed ∙ next_mapped after ws)

@@ -4,7 +4,7 @@ use mathlib.Core.List.{append_assoc}
 use Rattle.std.specs.List.{cons_option}
 use Rattle.std.specs.declared.boxed.Box.{Box}
 use Rattle.std.proofs.lemmas.List.Elements.{filter_map-append}
-use Rattle.mailbox.specs.declared.place.Place.{Place}
+use Rattle.mailbox.specs.declared.place.ItemPlace.{ItemPlace}
 use Rattle.mailbox.specs.Values.{Item}
 use Rattle.mailbox.specs.Inside.Boxes.{Boxes, item_at, in_order}
 use Rattle.mailbox.specs.Inside.Places.{Branch, places_of, branch}
@@ -14,7 +14,7 @@ one_first : (o : Option Item) (ws : List Item) → cons_option o ws ≡ cons_opt
 one_first None ws = refl
 one_first (Some w) ws = refl
 
-module _ (boxes : Boxes) {A : Type 0} (o : Option (Box Branch A)) (b : Box Branch A) (v : Branch) (is : o ≡ Some b) (at : v ≡ b.value) (p : Place)
+module _ (boxes : Boxes) {A : Type 0} (o : Option (Box Branch A)) (b : Box Branch A) (v : Branch) (is : o ≡ Some b) (at : v ≡ b.value) (p : ItemPlace)
     (e l : Option (Box Branch A)) (parts : branch p e l ≡ v) where
   in_parts : in_order boxes (places_of o) ≡ in_order boxes (places_of e) ++ (cons_option (item_at boxes p.key) [] ++ in_order boxes (places_of l))
   in_parts =

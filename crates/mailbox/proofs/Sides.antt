@@ -19,7 +19,7 @@ use Rattle.std.proofs.lemmas.List.Folds.{list_any-append}
 use Rattle.base.proofs.Bools.{is_less as less_is}
 use Rattle.prefix_tree.specs.Following.{is_after}
 use Rattle.mailbox.specs.declared.key.Key.{Key}
-use Rattle.mailbox.specs.declared.place.Place.{Place}
+use Rattle.mailbox.specs.declared.place.ItemPlace.{ItemPlace}
 use Rattle.mailbox.specs.Order.{place_at, named_cmp}
 use Rattle.mailbox.specs.Inside.Boxes.{name_of}
 use Rattle.mailbox.specs.Inside.Places.{place_cmp, same_place, InOrder, Branch, soonest, is_due, places_of, height_of, all_of, branch, EndsWith}
@@ -70,7 +70,7 @@ module _ {X : Type 0} where
   pairs_prefix R (x ∷ xs) ys h = pairs_cons R x xs (all_prefix (R x) xs ys (pairs_head R x (xs ++ ys) h)) (pairs_prefix R xs ys (pairs_tail R x (xs ++ ys) h))
 
 -- nothing is due where the first ends later
-pub none_due : (moment : ℕ) (places : List Place) → moment < soonest places → find (is_due moment) places ≡ None
+pub none_due : (moment : ℕ) (places : List ItemPlace) → moment < soonest places → find (is_due moment) places ≡ None
 none_due moment [] before = refl
 none_due moment (p ∷ ps) before =
     let here : is_due moment p ≡ false = grind (arith, nat_tests, before) in
@@ -83,7 +83,7 @@ pub not_due : {A : Type 0} (o : Option (Box Branch A)) (b : Box Branch A) (v : B
 not_due o b v is at moment later = sym (ap (find (is_due moment)) (ap places_of is ∙ ap (λ (w : Branch). w.places) (sym at)) ∙ none_due moment v.places (ltb-true _ _ later))
 
 -- something is due where the first has ended
-pub some_due : (moment : ℕ) (places : List Place) → moment < 18446744073709551615 → nat_lt moment (soonest places) ≡ false → is_some (find (is_due moment) places) ≡ true
+pub some_due : (moment : ℕ) (places : List ItemPlace) → moment < 18446744073709551615 → nat_lt moment (soonest places) ≡ false → is_some (find (is_due moment) places) ≡ true
 some_due moment [] before ended = absurd (false≢true (sym ended ∙ lt-ltb moment 18446744073709551615 before))
 some_due moment (p ∷ ps) before ended =
     elim (is_due moment p) as (λ b. is_due moment p ≡ b → is_some (cond b (Some p) (find (is_due moment) ps)) ≡ true) [
@@ -102,32 +102,32 @@ copied_some None o is some = ap is_some is ∙ some
 copied_some (Some x) o is some = refl
 
 place_total : IsTotalOrder place_cmp
-place_total = on_total (λ (p : Place). place_at p.number p.key) nat_list_cmp_total
+place_total = on_total (λ (p : ItemPlace). place_at p.number p.key) nat_list_cmp_total
 
-reversed : (p q : Place) (r : Ordering) → place_cmp q p ≡ r → place_cmp p q ≡ ordering_reverse r
+reversed : (p q : ItemPlace) (r : Ordering) → place_cmp q p ≡ r → place_cmp p q ≡ ordering_reverse r
 reversed p q r e = place_total.antisymm p q ∙ ap ordering_reverse e
 
 -- a place that another comes before or after is not the same
-off : (p q : Place) (r : Ordering) → place_cmp p q ≡ r → is_eq r ≡ false → same_place p q ≡ false
+off : (p q : ItemPlace) (r : Ordering) → place_cmp p q ≡ r → is_eq r ≡ false → same_place p q ≡ false
 off p q r e not_eq = ap is_eq e ∙ not_eq
 
-module _ (p own : Place) where
+module _ (p own : ItemPlace) where
   -- what comes after a place, and what comes before it, where p is before it, it, or after it
-  after_less : place_cmp p own ≡ Less → (q : Place) → place_cmp own q ≡ Less → same_place p q ≡ false
+  after_less : place_cmp p own ≡ Less → (q : ItemPlace) → place_cmp own q ≡ Less → same_place p q ≡ false
   after_less e q less = off p q Less (place_total.trans p own q e less) refl
 
-  after_equal : place_cmp p own ≡ Equal → (q : Place) → place_cmp own q ≡ Less → same_place p q ≡ false
+  after_equal : place_cmp p own ≡ Equal → (q : ItemPlace) → place_cmp own q ≡ Less → same_place p q ≡ false
   after_equal e q less = off p q Less (place_total.congr p own q e ∙ less) refl
 
-  before_equal : place_cmp p own ≡ Equal → (q : Place) → place_cmp q own ≡ Less → same_place p q ≡ false
+  before_equal : place_cmp p own ≡ Equal → (q : ItemPlace) → place_cmp q own ≡ Less → same_place p q ≡ false
   before_equal e q less = off p q Greater (place_total.congr p own q e ∙ reversed own q Less less) refl
 
-  before_greater : place_cmp p own ≡ Greater → (q : Place) → place_cmp q own ≡ Less → same_place p q ≡ false
+  before_greater : place_cmp p own ≡ Greater → (q : ItemPlace) → place_cmp q own ≡ Less → same_place p q ≡ false
   before_greater e q less = off p q Greater (reversed p q Less (place_total.trans q own p less (reversed own p Greater e))) refl
 
 -- a list in order, parted at a place
-module _ (es : List Place) (own : Place) (ls : List Place) (order : InOrder (es ++ own ∷ ls)) where
-  abbrev IsBeforePlace : Place → Place → Type 0
+module _ (es : List ItemPlace) (own : ItemPlace) (ls : List ItemPlace) (order : InOrder (es ++ own ∷ ls)) where
+  abbrev IsBeforePlace : ItemPlace → ItemPlace → Type 0
   IsBeforePlace a b = place_cmp a b ≡ Less
 
   afters : All (λ q. place_cmp own q ≡ Less) ls
@@ -142,23 +142,23 @@ module _ (es : List Place) (own : Place) (ls : List Place) (order : InOrder (es 
   pub order_later : InOrder ls
   order_later = pairs_tail IsBeforePlace own ls (pairs_back IsBeforePlace es (own ∷ ls) order)
 
-  module _ (p : Place) where
-    abbrev test : Place → Bool
+  module _ (p : ItemPlace) where
+    abbrev test : ItemPlace → Bool
     test q = same_place p q
 
-    abbrev others : List Place → List Place
+    abbrev others : List ItemPlace → List ItemPlace
     others places = filter (λ q. not (test q)) places
 
     others_with_own : (b : Bool) → test own ≡ b → others (own ∷ ls) ≡ cond (not b) (own ∷ others ls) (others ls)
     others_with_own b e = ap (λ c. cond (not c) (own ∷ others ls) (others ls)) e
 
     -- the place goes on the earlier side, where it comes before the node's
-    pub gone_earlier : place_cmp p own ≡ Less → (left : List Place) → left ≡ others es → left ++ own ∷ ls ≡ others (es ++ own ∷ ls)
+    pub gone_earlier : place_cmp p own ≡ Less → (left : List ItemPlace) → left ≡ others es → left ++ own ∷ ls ≡ others (es ++ own ∷ ls)
     gone_earlier e left is =
         (λ i. is i ++ own ∷ sym (filter_all test ls (All-weaker (λ q. place_cmp own q ≡ Less) (λ q. test q ≡ false) (after_less p own e) ls afters)) i)
         ∙ ap (λ places. others es ++ places) (sym (others_with_own false (off p own Less e refl))) ∙ sym (filter-append (λ q. not (test q)) es (own ∷ ls))
 
-    pub gone_later : place_cmp p own ≡ Greater → (left : List Place) → left ≡ others ls → es ++ own ∷ left ≡ others (es ++ own ∷ ls)
+    pub gone_later : place_cmp p own ≡ Greater → (left : List ItemPlace) → left ≡ others ls → es ++ own ∷ left ≡ others (es ++ own ∷ ls)
     gone_later e left is =
         (λ i. sym (filter_all test es (All-weaker (λ q. place_cmp q own ≡ Less) (λ q. test q ≡ false) (before_greater p own e) es befores)) i ++ own ∷ is i)
         ∙ ap (λ places. others es ++ places) (sym (others_with_own false (off p own Greater e refl))) ∙ sym (filter-append (λ q. not (test q)) es (own ∷ ls))
@@ -190,11 +190,11 @@ module _ (es : List Place) (own : Place) (ls : List Place) (order : InOrder (es 
         ∙ any
 
   -- what comes before a place that is not after a key is not after it
-  still_not : (after : Option (ℕ × Key)) (q : Place) → place_cmp q own ≡ Less → is_after named_cmp name_of after own ≡ false → is_after named_cmp name_of after q ≡ false
+  still_not : (after : Option (ℕ × Key)) (q : ItemPlace) → place_cmp q own ≡ Less → is_after named_cmp name_of after own ≡ false → is_after named_cmp name_of after q ≡ false
   still_not None q less not_after = absurd (false≢true (sym not_after))
   still_not (Some k) q less not_after = false_from_ne_true _ (λ is_less. false≢true (sym not_after ∙ ap is_lt (named_trans k q is_less less)))
     where
-      named_trans : (k : ℕ × Key) (q : Place) → is_lt (named_cmp k (name_of q)) ≡ true → place_cmp q own ≡ Less → named_cmp k (name_of own) ≡ Less
+      named_trans : (k : ℕ × Key) (q : ItemPlace) → is_lt (named_cmp k (name_of q)) ≡ true → place_cmp q own ≡ Less → named_cmp k (name_of own) ≡ Less
       named_trans k q is_less less = place_total.trans (record { number = k.0; key = k.1; deadline = 0 }) q own (less_is (named_cmp k (name_of q)) is_less) less
 
   pub none_earlier : (after : Option (ℕ × Key)) → is_after named_cmp name_of after own ≡ false → find (is_after named_cmp name_of after) es ≡ None
@@ -204,14 +204,14 @@ module _ (es : List Place) (own : Place) (ls : List Place) (order : InOrder (es 
       befores)
 
   -- what comes after a place that is after a key is after it too
-  still_after : (after : Option (ℕ × Key)) (q : Place) → place_cmp own q ≡ Less → is_after named_cmp name_of after own ≡ true → is_after named_cmp name_of after q ≡ true
+  still_after : (after : Option (ℕ × Key)) (q : ItemPlace) → place_cmp own q ≡ Less → is_after named_cmp name_of after own ≡ true → is_after named_cmp name_of after q ≡ true
   still_after None q less here = refl
   still_after (Some k) q less here = ap is_lt (place_total.trans (record { number = k.0; key = k.1; deadline = 0 }) own q (less_is (named_cmp k (name_of own)) here) less)
 
   pub all_later : (after : Option (ℕ × Key)) → is_after named_cmp name_of after own ≡ true → All (λ q. is_after named_cmp name_of after q ≡ true) ls
   all_later after here = All-weaker (λ q. place_cmp own q ≡ Less) (λ q. is_after named_cmp name_of after q ≡ true) (λ q less. still_after after q less here) ls afters
 
-module _ {A : Type 0} (o : Option (Box Branch A)) (b : Box Branch A) (v : Branch) (is : o ≡ Some b) (at : v ≡ b.value) (p : Place) (e l : Option (Box Branch A)) (parts : branch p e l ≡ v) where
+module _ {A : Type 0} (o : Option (Box Branch A)) (b : Box Branch A) (v : Branch) (is : o ≡ Some b) (at : v ≡ b.value) (p : ItemPlace) (e l : Option (Box Branch A)) (parts : branch p e l ≡ v) where
   pub there : places_of o ≡ all_of p e l
   there = ap places_of is ∙ ap (λ (w : Branch). w.places) (sym (parts ∙ at))
 
@@ -224,19 +224,19 @@ module _ {A : Type 0} (o : Option (Box Branch A)) (b : Box Branch A) (v : Branch
   later_cost false old own earlier later found one two three = absurd (false≢true found)
 
   -- what is found at the node
-  found_there : (test : Place → Bool) → find test (places_of o) ≡ or_found (find test (places_of e)) (cond (test p) (Some p) (find test (places_of l)))
+  found_there : (test : ItemPlace → Bool) → find test (places_of o) ≡ or_found (find test (places_of e)) (cond (test p) (Some p) (find test (places_of l)))
   found_there test = ap (find test) there ∙ found_in test (places_of e) (p ∷ places_of l)
 
-  pub found_earlier : (test : Place → Bool) (x : Place) → Some x ≡ find test (places_of e) → Some x ≡ find test (places_of o)
+  pub found_earlier : (test : ItemPlace → Bool) (x : ItemPlace) → Some x ≡ find test (places_of e) → Some x ≡ find test (places_of o)
   found_earlier test x found = sym (found_there test ∙ ap (λ f. or_found f (cond (test p) (Some p) (find test (places_of l)))) (sym found))
 
-  pub found_here : (test : Place → Bool) → None ≡ find test (places_of e) → test p ≡ true → Some p ≡ find test (places_of o)
+  pub found_here : (test : ItemPlace → Bool) → None ≡ find test (places_of e) → test p ≡ true → Some p ≡ find test (places_of o)
   found_here test none here = sym (found_there test ∙ (λ i. or_found (sym none i) (cond (here i) (Some p) (find test (places_of l)))))
 
-  pub found_later : (test : Place → Bool) (r : Option Place) → None ≡ find test (places_of e) → test p ≡ false → r ≡ find test (places_of l) → r ≡ find test (places_of o)
+  pub found_later : (test : ItemPlace → Bool) (r : Option ItemPlace) → None ≡ find test (places_of e) → test p ≡ false → r ≡ find test (places_of l) → r ≡ find test (places_of o)
   found_later test r none other found = found ∙ sym (found_there test ∙ (λ i. or_found (sym none i) (cond (other i) (Some p) (find test (places_of l)))))
 
-  pub last_later : (x : Place) → EndsWith (places_of l) (Some x) → EndsWith (places_of o) (Some x)
+  pub last_later : (x : ItemPlace) → EndsWith (places_of l) (Some x) → EndsWith (places_of o) (Some x)
   last_later x end = (places_of e ++ p ∷ end.0, there ∙ ap (λ places. places_of e ++ p ∷ places) end.1 ∙ sym (append_assoc (places_of e) (p ∷ end.0) (x ∷ [])))
 
   pub earlier_shorter : length (places_of e) < length (places_of o)
@@ -256,16 +256,16 @@ module _ {A : Type 0} (o : Option (Box Branch A)) (b : Box Branch A) (v : Branch
     later_order = order_later (places_of e) p (places_of l) parted
 
     -- where the node's own place is not after a key, the first that is comes later
-    pub first_later : (after : Option (ℕ × Key)) (r : Option Place) → is_after named_cmp name_of after p ≡ false →
+    pub first_later : (after : Option (ℕ × Key)) (r : Option ItemPlace) → is_after named_cmp name_of after p ≡ false →
         r ≡ find (is_after named_cmp name_of after) (places_of l) → r ≡ find (is_after named_cmp name_of after) (places_of o)
     first_later after r off found = found_later (is_after named_cmp name_of after) r (sym (none_earlier (places_of e) p (places_of l) parted after off)) off found
 
-    module _ (q : Place) where
-      pub removed_earlier : place_cmp q p ≡ Less → (left : List Place) → left ≡ filter (λ z. not (same_place q z)) (places_of e) →
+    module _ (q : ItemPlace) where
+      pub removed_earlier : place_cmp q p ≡ Less → (left : List ItemPlace) → left ≡ filter (λ z. not (same_place q z)) (places_of e) →
           left ++ p ∷ places_of l ≡ filter (λ z. not (same_place q z)) (places_of o)
       removed_earlier less left is = gone_earlier (places_of e) p (places_of l) parted q less left is ∙ ap (filter (λ z. not (same_place q z))) (sym there)
 
-      pub removed_later : place_cmp q p ≡ Greater → (left : List Place) → left ≡ filter (λ z. not (same_place q z)) (places_of l) →
+      pub removed_later : place_cmp q p ≡ Greater → (left : List ItemPlace) → left ≡ filter (λ z. not (same_place q z)) (places_of l) →
           places_of e ++ p ∷ left ≡ filter (λ z. not (same_place q z)) (places_of o)
       removed_later more left is = gone_later (places_of e) p (places_of l) parted q more left is ∙ ap (filter (λ z. not (same_place q z))) (sym there)
 

@@ -10,7 +10,7 @@ use Rattle.mailbox.specs.Numbers.{Number, Moment}
 use Rattle.mailbox.specs.declared.key.Key.{Key}
 use Rattle.mailbox.specs.declared.key.Kind.{Kind}
 use Rattle.mailbox.specs.declared.key.Kind.TheVariants.{Message, Report}
-use Rattle.mailbox.specs.declared.place.Place.{Place}
+use Rattle.mailbox.specs.declared.place.ItemPlace.{ItemPlace}
 use Rattle.mailbox.specs.Values.{Item, Mailed}
 use Rattle.mailbox.specs.Item.{is_expired}
 
@@ -48,5 +48,5 @@ abbrev pub next_due : Mailed → Moment → Option (Number × Key) → Option It
 next_due m moment after = next_of named_cmp named (filter (is_expired moment) m.items) after
 
 -- an item's place in the order of all, with its deadline
-abbrev pub place_of : Item → Place
+abbrev pub place_of : Item → ItemPlace
 place_of w = record { number = w.number; key = w.key; deadline = w.deadline }

@@ -13,7 +13,7 @@ ghost use Rattle.mailbox.specs.Order.{place_of};
 use crate::inbox::Inbox;
 use crate::node::Link;
 use crate::order::Order;
-use crate::place::Place;
+use crate::place::ItemPlace;
 use crate::{Item, Key, items};
 use base::TryCopy;
 use identity::{Itsi, Prefix};
@@ -86,7 +86,7 @@ impl<A: Allocator> Boxes<A> {
 
     /// Removes the item at a key, and the inbox if it is then empty, and returns the item's place. If the caller says
     /// by `is_alone` that nothing else is in the inbox, it searches the tree only once. It takes no memory.
-    pub(crate) fn remove_at(&mut self, key: &Key, is_alone: bool) -> Option<Place>
+    pub(crate) fn remove_at(&mut self, key: &Key, is_alone: bool) -> Option<ItemPlace>
         requires { is_alone ≡ true → list_all (is_at key.now) (items_under self.old (id_path key.now.destination)) ≡ true }
         ensures left { self.new ≡ swept self.old (id_path key.now.destination) (is_at key.now) }
         ensures place { result ≡ option_map place_of (item_at self.old key.now) }
@@ -192,7 +192,7 @@ fn put_there<A: Allocator>(
 }
 
 // Removes the item at the key, and its destination's inbox if it is then empty.
-fn remove_at<A: Allocator>(inboxes: &mut LazyMap<Inbox<A>, A>, key: &Key) -> Option<Place>
+fn remove_at<A: Allocator>(inboxes: &mut LazyMap<Inbox<A>, A>, key: &Key) -> Option<ItemPlace>
     ensures left { inboxes.new ≡ swept inboxes.old (id_path key.now.destination) (is_at key.now) }
     ensures place { result ≡ option_map place_of (find (is_at key.now) (items_under inboxes.old (id_path key.now.destination))) }
 {
@@ -200,7 +200,7 @@ fn remove_at<A: Allocator>(inboxes: &mut LazyMap<Inbox<A>, A>, key: &Key) -> Opt
 }
 
 // Removes the inbox of the key's destination. Only the item at the key may be in it.
-fn remove_alone<A: Allocator>(inboxes: &mut LazyMap<Inbox<A>, A>, key: &Key) -> Option<Place>
+fn remove_alone<A: Allocator>(inboxes: &mut LazyMap<Inbox<A>, A>, key: &Key) -> Option<ItemPlace>
     requires { list_all (is_at key.now) (items_under inboxes.old (id_path key.now.destination)) ≡ true }
     ensures left { inboxes.new ≡ swept inboxes.old (id_path key.now.destination) (is_at key.now) }
     ensures place { result ≡ option_map place_of (find (is_at key.now) (items_under inboxes.old (id_path key.now.destination))) }

@@ -7,7 +7,7 @@ ghost use Rattle.mailbox.specs.Inside.Places.{InOrder, is_due_after, places_of, 
 
 use crate::Key;
 use crate::node::{Link, first_due};
-use crate::place::Place;
+use crate::place::ItemPlace;
 use base::Steps;
 use std::alloc::Allocator;
 use std::sync::ledger::Ledger;
@@ -20,7 +20,7 @@ pub(crate) fn first_due_after<'n, A: Allocator, L: Ledger>(
     moment: u64,
     after: &Option<(u64, Key)>,
     steps: &mut Steps<L>,
-) -> Option<&'n Place>
+) -> Option<&'n ItemPlace>
     requires order { InOrder (places_of link.now) }
     requires end { moment < 18446744073709551615 }
     ensures first { option_copied result ≡ find (is_due_after moment after.now) (places_of link.now) }

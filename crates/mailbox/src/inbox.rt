@@ -8,7 +8,7 @@ ghost use Rattle.mailbox.specs.Inside.Boxes.{box_of, put_last};
 ghost use Rattle.mailbox.specs.Order.{place_of};
 
 use crate::items::{any_at, place_at};
-use crate::place::Place;
+use crate::place::ItemPlace;
 use crate::{Item, Key};
 use base::TryCopy;
 use std::alloc::{AllocError, Allocator};
@@ -70,7 +70,7 @@ impl<A: Allocator> Inbox<A> {
     }
 
     /// The place of the item at the key, and the inbox without it, or `None` if that is empty.
-    pub(crate) fn without(mut self, key: &Key) -> (Option<Place>, Option<Self>)
+    pub(crate) fn without(mut self, key: &Key) -> (Option<ItemPlace>, Option<Self>)
         ensures place { result.0 ≡ option_map place_of (find (is_at key.now) self) }
         ensures left { result.1 ≡ box_of (filter (λ w. not (is_at key.now w)) self) }
     {
@@ -87,17 +87,20 @@ impl<A: Allocator> Inbox<A> {
 impl<A: Allocator + Clone> TryCopy for Inbox<A> {
     fn try_copy(&self) -> Result<Self, AllocError> {
         Ok(Inbox {
-            items: copied(self.items.allocator(), &self.items)?,
+            items: copy_items(self.items.allocator(), &self.items)?,
         })
     }
 }
 
-fn copied<A: Allocator + Clone>(alloc: &A, items: &[Item<A>]) -> Result<Vec<Item<A>, A>, AllocError>
+fn copy_items<A: Allocator + Clone>(
+    alloc: &A,
+    items: &[Item<A>],
+) -> Result<Vec<Item<A>, A>, AllocError>
     ensures { IfOk result (λ copy. copy.items ≡ items.now) }
 {
     let mut copy = Vec::new(alloc.clone()?);
     for item in items {
-        copy.push(item.copied(alloc.clone()?)?)?;
+        copy.push(item.copy(alloc.clone()?)?)?;
     }
     Ok(copy)
 }

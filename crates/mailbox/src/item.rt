@@ -8,7 +8,7 @@ ghost use Rattle.mailbox.specs.GroupPost.{addressed};
 ghost use Rattle.mailbox.specs.Item.{request_of, asks_nothing, asks_consumed, wants_acknowledgement, ends_request};
 ghost use Rattle.mailbox.specs.Item.{is_at, is_reported, is_ended_by, is_answerless, is_confirmed};
 
-use crate::place::Place;
+use crate::place::ItemPlace;
 use crate::{Envelope, Key, Kind};
 use identity::{Bits, Gtsi, Itsi};
 use sds_tl::{DeliveryReportRequest, DeliveryStatus, Head};
@@ -92,7 +92,7 @@ impl<A: Allocator> Item<A> {
     }
 
     /// A copy in memory of the given allocator. It fails only when memory runs out.
-    pub fn copied<B: Allocator>(&self, alloc: B) -> Result<Item<B>, AllocError>
+    pub fn copy<B: Allocator>(&self, alloc: B) -> Result<Item<B>, AllocError>
         ensures { IfOk result (λ copy. copy ≡ self.now) }
     {
         self.copied_to(alloc, self.key.destination)
@@ -118,10 +118,10 @@ impl<A: Allocator> Item<A> {
         })
     }
 
-    pub(crate) fn place(&self) -> Place
+    pub(crate) fn place(&self) -> ItemPlace
         ensures { result ≡ place_of self.now }
     {
-        Place {
+        ItemPlace {
             number: self.number(),
             key: self.key(),
             deadline: self.deadline(),
@@ -138,7 +138,8 @@ impl<A: Allocator> Item<A> {
     pub(crate) fn is_reported(&self, envelope: &Envelope, status: DeliveryStatus) -> bool
         ensures { result ≡ is_reported envelope.now status self.now }
     {
-        self.is_at(&envelope.answered(Kind::Message)) && ends_request(status, request_of(&self.pdu))
+        self.is_at(&envelope.answered_key(Kind::Message))
+            && ends_request(status, request_of(&self.pdu))
     }
 
     /// Whether it is a message that a report in this envelope ends, or a report that it replaces.

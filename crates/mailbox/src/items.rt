@@ -6,7 +6,7 @@ ghost use Rattle.std.specs.Option.{option_copied, option_map};
 ghost use Rattle.mailbox.specs.Order.{place_of};
 ghost use Rattle.mailbox.specs.Item.{is_at, is_reported, is_ended_by, is_confirmed};
 
-use crate::place::Place;
+use crate::place::ItemPlace;
 use crate::{Envelope, Item, Key};
 use sds_tl::DeliveryStatus;
 use std::alloc::Allocator;
@@ -33,7 +33,7 @@ pub(crate) fn item_at<'i, A: Allocator>(items: &'i [Item<A>], key: &Key) -> Opti
 }
 
 /// The place of the item at the key.
-pub(crate) fn place_at<A: Allocator>(items: &[Item<A>], key: &Key) -> Option<Place>
+pub(crate) fn place_at<A: Allocator>(items: &[Item<A>], key: &Key) -> Option<ItemPlace>
     ensures { result ≡ option_map place_of (find (is_at key.now) items.now) }
 {
     match item_at(items, key) {

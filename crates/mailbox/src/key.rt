@@ -68,7 +68,7 @@ impl Envelope {
     }
 
     /// The key of what it answers, which went the other way.
-    pub fn answered(&self, kind: Kind) -> Key
+    pub fn answered_key(&self, kind: Kind) -> Key
         ensures { result ≡ answered self.now kind }
     {
         Key {

@@ -27,7 +27,7 @@ pub fn mails()
 pub fn in_order<A: Allocator>(mail: &Mail<A>)
     ensures { AllPairs IsBefore mail.now.items }
 {
-    mail.hold_order()
+    mail.facts_of_order()
 }
 
 /// The PDU of each item of such a mail is the written text of an SDS-TRANSFER or SDS-REPORT.

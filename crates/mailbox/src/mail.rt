@@ -19,7 +19,7 @@ ghost use Rattle.mailbox.specs.Refusals.{restore_refusal, post_refusal, report_r
 use crate::boxes::Boxes;
 use crate::items::{all_at, any_at, any_confirmed};
 use crate::order::Order;
-use crate::place::Place;
+use crate::place::ItemPlace;
 use crate::{Envelope, Item, Key, Kind, MailFault, Moment, Opening, ReportOpening, Stamp};
 use base::{Steps, TryCopy};
 use identity::{Bits, Itsi};
@@ -64,7 +64,7 @@ impl<A: Allocator> Mail<A> {
     }
 
     // States by its clauses that the items are in order, and that no two have the same key.
-    pub(crate) fn hold_order(&self)
+    pub(crate) fn facts_of_order(&self)
         ensures order { AllPairs IsBefore self.now.items }
         ensures apart { AllPairs (λ a b. same_key b.key a.key ≡ false) self.now.items }
     {
@@ -177,7 +177,7 @@ impl<A: Allocator> Mail<A> {
     }
 
     /// The place of the first item that has expired. Each visited node is a step.
-    fn first_due<L: Ledger>(&self, moment: Moment, steps: &mut Steps<L>) -> Option<Place>
+    fn first_due<L: Ledger>(&self, moment: Moment, steps: &mut Steps<L>) -> Option<ItemPlace>
         ensures first { result ≡ option_map place_of (find (is_expired moment) self.now.items) }
         ensures apart { AllPairs (λ a b. same_key b.key a.key ≡ false) self.now.items }
         ensures cost { (height : ℕ) → IsAboveAll height self.now → steps.new ≤ steps.old + (if is_some result then 2 * height else 1) }
@@ -240,8 +240,8 @@ impl<A: Allocator> Mail<A> {
         ensures { self.new ≡ without (is_reported envelope.now status) self.old }
     {
         if ends {
-            self.hold_order();
-            self.remove_at(&envelope.answered(Kind::Message), is_alone);
+            self.facts_of_order();
+            self.remove_at(&envelope.answered_key(Kind::Message), is_alone);
         }
     }
 
@@ -388,7 +388,7 @@ impl<A: Allocator + Clone> Mail<A> {
         ensures err { IfErr result (λ e. (ack_refusal registry.now self.old envelope.now ≡ Some e) × (self.new ≡ self.old)) }
     {
         let is_alone = self.judge_ack(registry, envelope)?;
-        self.remove_at(&envelope.answered(Kind::Report), is_alone);
+        self.remove_at(&envelope.answered_key(Kind::Report), is_alone);
         Ok(())
     }
 
@@ -457,7 +457,7 @@ impl<A: Allocator + Clone> Mail<A> {
     fn put(
         &mut self,
         item: Item<A>,
-        earlier: &Option<Place>,
+        earlier: &Option<ItemPlace>,
         is_first: bool,
     ) -> Result<(), AllocError>
         requires last { ComesLast self.old item.number item.key }

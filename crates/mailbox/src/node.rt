@@ -11,7 +11,7 @@ ghost use Rattle.mailbox.specs.Inside.Places.{same_place, InOrder, soonest, is_d
 ghost use Rattle.mailbox.specs.Inside.Places.{IsLow, IsBalanced, IsFirstOf, IsLastOf, EndsWith};
 
 use crate::Key;
-use crate::place::Place;
+use crate::place::ItemPlace;
 use base::Steps;
 use std::alloc::{AllocError, Allocator};
 use std::cmp::Ordering;
@@ -24,7 +24,7 @@ pub(crate) type Link<A> = Box<Node<A>, A>;
 /// A place, with the places before it on one side and those after it on the other.
 #[derive(Drop)]
 pub(crate) struct Node<A: Allocator> {
-    place: Place,
+    place: ItemPlace,
     height: u8,
     // The earliest deadline in this node and under it.
     least: u64,
@@ -53,7 +53,7 @@ impl<A: Allocator> Model for Node<A> {
 
 impl<A: Allocator> Node<A> {
     /// A node with these sides. Neither may be more than one level higher than the other.
-    pub(crate) fn of(place: Place, earlier: Option<Link<A>>, later: Option<Link<A>>) -> Self
+    pub(crate) fn of(place: ItemPlace, earlier: Option<Link<A>>, later: Option<Link<A>>) -> Self
         requires earlier { height_of earlier ≤ height_of later + 1 }
         requires later { height_of later ≤ height_of earlier + 1 }
         requires few { length (places_of earlier) + length (places_of later) + 1 < 2 ^ 64 }
@@ -71,7 +71,7 @@ impl<A: Allocator> Node<A> {
     }
 
     /// Its place and its sides.
-    pub(crate) fn parts(&self) -> (&Place, &Option<Link<A>>, &Option<Link<A>>)
+    pub(crate) fn parts(&self) -> (&ItemPlace, &Option<Link<A>>, &Option<Link<A>>)
         ensures parts { branch result.0.now result.1.now result.2.now ≡ self.now }
         ensures earlier { height_of result.1.now ≤ height_of result.2.now + 1 }
         ensures later { height_of result.2.now ≤ height_of result.1.now + 1 }
@@ -88,7 +88,7 @@ impl<A: Allocator> Node<A> {
     }
 
     /// Its place, and its sides taken out of it.
-    fn take_apart(&mut self) -> (Place, Option<Link<A>>, Option<Link<A>>)
+    fn take_apart(&mut self) -> (ItemPlace, Option<Link<A>>, Option<Link<A>>)
         ensures parts { branch result.0 result.1 result.2 ≡ self.old }
         ensures earlier { height_of result.1 ≤ height_of result.2 + 1 }
         ensures later { height_of result.2 ≤ height_of result.1 + 1 }
@@ -122,7 +122,7 @@ fn least<A: Allocator>(link: &Option<Link<A>>) -> u64
 
 // The parts of a node, turned so that its later side is no lower than its earlier one: if it is lower, the node of the
 // earlier side comes to the top.
-fn leaning_later<A: Allocator>(node: &mut Node<A>) -> (Place, Option<Link<A>>, Option<Link<A>>)
+fn leaning_later<A: Allocator>(node: &mut Node<A>) -> (ItemPlace, Option<Link<A>>, Option<Link<A>>)
     ensures places { all_of result.0 result.1 result.2 ≡ node.old.places }
     ensures later { height_of result.2 + 1 ≡ node.old.height }
     ensures earlier { height_of result.1 < node.old.height }
@@ -141,7 +141,9 @@ fn leaning_later<A: Allocator>(node: &mut Node<A>) -> (Place, Option<Link<A>>, O
 }
 
 // The same, turned so that the earlier side is no lower than the later one.
-fn leaning_earlier<A: Allocator>(node: &mut Node<A>) -> (Place, Option<Link<A>>, Option<Link<A>>)
+fn leaning_earlier<A: Allocator>(
+    node: &mut Node<A>,
+) -> (ItemPlace, Option<Link<A>>, Option<Link<A>>)
     ensures places { all_of result.0 result.1 result.2 ≡ node.old.places }
     ensures earlier { height_of result.1 + 1 ≡ node.old.height }
     ensures later { height_of result.2 < node.old.height }
@@ -161,7 +163,7 @@ fn leaning_earlier<A: Allocator>(node: &mut Node<A>) -> (Place, Option<Link<A>>,
 
 // The node where the later side is two levels higher: the node of that side comes to the top.
 fn turn_earlier<A: Allocator>(
-    place: Place,
+    place: ItemPlace,
     earlier: Option<Link<A>>,
     later: Option<Link<A>>,
 ) -> Node<A>
@@ -181,7 +183,7 @@ fn turn_earlier<A: Allocator>(
 
 // The node where the earlier side is two levels higher: the node of that side comes to the top.
 fn turn_later<A: Allocator>(
-    place: Place,
+    place: ItemPlace,
     earlier: Option<Link<A>>,
     later: Option<Link<A>>,
 ) -> Node<A>
@@ -200,7 +202,11 @@ fn turn_later<A: Allocator>(
 }
 
 // A balanced node with these sides. One may be two levels higher than the other.
-fn balanced<A: Allocator>(place: Place, earlier: Option<Link<A>>, later: Option<Link<A>>) -> Node<A>
+fn balanced<A: Allocator>(
+    place: ItemPlace,
+    earlier: Option<Link<A>>,
+    later: Option<Link<A>>,
+) -> Node<A>
     requires earlier { height_of earlier ≤ height_of later + 2 }
     requires later { height_of later ≤ height_of earlier + 2 }
     requires few { length (places_of earlier) + length (places_of later) + 1 < 2 ^ 64 }
@@ -220,7 +226,7 @@ fn balanced<A: Allocator>(place: Place, earlier: Option<Link<A>>, later: Option<
 
 /// Puts the place at the end, in a node in the given box.
 #[cycle(append)]
-pub(crate) fn append<A: Allocator>(link: &mut Option<Link<A>>, place: &Place, spare: Link<A>)
+pub(crate) fn append<A: Allocator>(link: &mut Option<Link<A>>, place: &ItemPlace, spare: Link<A>)
     requires few { length (places_of link.old) + 1 < 2 ^ 64 }
     ensures places { places_of link.new ≡ places_of link.old ++ place.now ∷ [] }
     ensures grows { height_of link.old ≤ height_of link.new }
@@ -243,7 +249,7 @@ pub(crate) fn append<A: Allocator>(link: &mut Option<Link<A>>, place: &Place, sp
 fn pop_first<A: Allocator, L: Ledger>(
     link: &mut Option<Link<A>>,
     steps: &mut Steps<L>,
-) -> Option<(Place, Link<A>)>
+) -> Option<(ItemPlace, Link<A>)>
     ensures cost { steps.new ≤ steps.old + height_of link.old }
     ensures places { IsFirstOf (places_of link.old) (places_of link.new) (option_map (λ r. r.0) result) }
     ensures none { IfNone result (height_of link.old ≡ 0) }
@@ -270,7 +276,7 @@ fn pop_first<A: Allocator, L: Ledger>(
 
 /// Removes the last place, and returns it.
 #[cycle(pop_last)]
-pub(crate) fn pop_last<A: Allocator>(link: &mut Option<Link<A>>) -> Option<Place>
+pub(crate) fn pop_last<A: Allocator>(link: &mut Option<Link<A>>) -> Option<ItemPlace>
     ensures places { IsLastOf (places_of link.old) (places_of link.new) result }
     ensures none { IfNone result (height_of link.old ≡ 0) }
     ensures count { length (places_of link.new) + (if is_some result then 1 else 0) ≡ length (places_of link.old) }
@@ -322,7 +328,7 @@ fn join<A: Allocator, L: Ledger>(
 #[cycle(remove_counted)]
 pub(crate) fn remove_counted<A: Allocator, L: Ledger>(
     link: &mut Option<Link<A>>,
-    place: &Place,
+    place: &ItemPlace,
     steps: &mut Steps<L>,
 ) -> Option<Link<A>>
     requires { InOrder (places_of link.old) }
@@ -353,7 +359,7 @@ pub(crate) fn remove_counted<A: Allocator, L: Ledger>(
 
 /// The last place.
 #[cycle(last)]
-pub(crate) fn last<A: Allocator>(link: &Option<Link<A>>) -> Option<&Place>
+pub(crate) fn last<A: Allocator>(link: &Option<Link<A>>) -> Option<&ItemPlace>
     ensures { EndsWith (places_of link.now) (option_copied result) }
 {
     let Some(node) = link else {
@@ -371,7 +377,7 @@ pub(crate) fn last<A: Allocator>(link: &Option<Link<A>>) -> Option<&Place>
 pub(crate) fn first_after<'n, A: Allocator>(
     link: &'n Option<Link<A>>,
     after: &Option<(u64, Key)>,
-) -> Option<&'n Place>
+) -> Option<&'n ItemPlace>
     requires { InOrder (places_of link.now) }
     ensures { option_copied result ≡ next_of named_cmp name_of (places_of link.now) after.now }
 {
@@ -394,7 +400,7 @@ pub(crate) fn first_due<'n, A: Allocator, L: Ledger>(
     link: &'n Option<Link<A>>,
     moment: u64,
     steps: &mut Steps<L>,
-) -> Option<&'n Place>
+) -> Option<&'n ItemPlace>
     requires { moment < 18446744073709551615 }
     ensures first { option_copied result ≡ find (is_due moment) (places_of link.now) }
     ensures cost { steps.new ≤ steps.old + (if is_some result then 2 * height_of link.now else 1) }
@@ -417,8 +423,8 @@ pub(crate) fn first_due<'n, A: Allocator, L: Ledger>(
 }
 
 /// A copy of the nodes, in boxes of their own.
-#[cycle(copied)]
-pub(crate) fn copied<A: Allocator + Clone>(
+#[cycle(copy_nodes)]
+pub(crate) fn copy_nodes<A: Allocator + Clone>(
     link: &Option<Link<A>>,
     alloc: &A,
 ) -> Result<Option<Link<A>>, AllocError>
@@ -429,6 +435,10 @@ pub(crate) fn copied<A: Allocator + Clone>(
         return Ok(None);
     };
     let (place, earlier, later) = node.parts();
-    let copy = Node::of(*place, copied(earlier, alloc)?, copied(later, alloc)?);
+    let copy = Node::of(
+        *place,
+        copy_nodes(earlier, alloc)?,
+        copy_nodes(later, alloc)?,
+    );
     Ok(Some(Box::new(alloc.clone()?, copy)?))
 }

@@ -1,7 +1,7 @@
 //! What judging found, so that the change need not look it up again.
 
 use crate::Key;
-use crate::place::Place;
+use crate::place::ItemPlace;
 
 /// What judging found for a new item.
 #[derive(Clone, Copy, Debug, PartialEq, Eq)]
@@ -20,7 +20,7 @@ pub struct ReportOpening {
     /// What it found for the report as a new item.
     pub(crate) opening: Opening,
     /// The place of the earlier report that it replaces.
-    pub(crate) earlier: Option<Place>,
+    pub(crate) earlier: Option<ItemPlace>,
     /// Whether it ends the message.
     pub(crate) ends: bool,
     /// Whether only the message waits for the message's destination, once the report is put.

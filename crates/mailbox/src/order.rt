@@ -10,7 +10,7 @@ ghost use Rattle.mailbox.specs.Inside.Boxes.{name_of};
 ghost use Rattle.mailbox.specs.Inside.Places.{same_place, InOrder, is_due, is_due_after, places_of, IsAbove, IsLastOf, EndsWith};
 
 use crate::node::{self, Link, Node};
-use crate::place::Place;
+use crate::place::ItemPlace;
 use crate::{Key, Moment, due};
 use base::{Steps, TryCopy};
 use std::alloc::{AllocError, Allocator};
@@ -27,10 +27,10 @@ pub(crate) struct Order<A: Allocator> {
 
 impl<A: Allocator> Model for Order<A> {
     ghost use Rattle.std.specs.Prelude.{◌≡◌, List, length};
-    ghost use Rattle.mailbox.specs.declared.place.Place.{Place};
+    ghost use Rattle.mailbox.specs.declared.place.ItemPlace.{ItemPlace};
     ghost use Rattle.mailbox.specs.Inside.Places.{coded_places, places_of};
 
-    ghost Value = { List Place };
+    ghost Value = { List ItemPlace };
 
     ghost coded = { coded_places };
 
@@ -69,14 +69,14 @@ impl<A: Allocator> Order<A> {
         &self.root
     }
 
-    pub(crate) fn last(&self) -> Option<&Place>
+    pub(crate) fn last(&self) -> Option<&ItemPlace>
         ensures { EndsWith self.now (option_copied result) }
     {
         node::last(&self.root)
     }
 
     /// The first place after this number and key, or the first of all.
-    pub(crate) fn first_after(&self, after: &Option<(u64, Key)>) -> Option<&Place>
+    pub(crate) fn first_after(&self, after: &Option<(u64, Key)>) -> Option<&ItemPlace>
         requires { InOrder self.now }
         ensures { option_copied result ≡ next_of named_cmp name_of self.now after.now }
     {
@@ -88,7 +88,7 @@ impl<A: Allocator> Order<A> {
         &self,
         moment: Moment,
         steps: &mut Steps<L>,
-    ) -> Option<&Place>
+    ) -> Option<&ItemPlace>
         ensures first { option_copied result ≡ find (is_due moment) self.now }
         ensures cost { (height : ℕ) → IsAbove height self.now → steps.new ≤ steps.old + (if is_some result then 2 * height else 1) }
     {
@@ -103,7 +103,7 @@ impl<A: Allocator> Order<A> {
         moment: Moment,
         after: &Option<(u64, Key)>,
         steps: &mut Steps<L>,
-    ) -> Option<&Place>
+    ) -> Option<&ItemPlace>
         requires { InOrder self.now }
         ensures first { option_copied result ≡ find (is_due_after moment after.now) self.now }
         ensures cost { (height : ℕ) → IsAbove height self.now → steps.new ≤ steps.old + next_due_steps height }
@@ -113,7 +113,7 @@ impl<A: Allocator> Order<A> {
     }
 
     /// Puts the place at the end, in a node in the given box.
-    pub(crate) fn append(&mut self, place: &Place, spare: Link<A>)
+    pub(crate) fn append(&mut self, place: &ItemPlace, spare: Link<A>)
         requires { length self.old + 1 < 2 ^ 64 }
         ensures { self.new ≡ self.old ++ place.now ∷ [] }
     {
@@ -122,7 +122,7 @@ impl<A: Allocator> Order<A> {
     }
 
     /// Removes the place, if it is there. Each visited node is a step.
-    pub(crate) fn remove_counted<L: Ledger>(&mut self, place: &Place, steps: &mut Steps<L>)
+    pub(crate) fn remove_counted<L: Ledger>(&mut self, place: &ItemPlace, steps: &mut Steps<L>)
         requires { InOrder self.old }
         ensures places { self.new ≡ filter (λ other. not (same_place place.now other)) self.old }
         ensures cost { (height : ℕ) → IsAbove height self.old → steps.new ≤ steps.old + height }
@@ -134,7 +134,7 @@ impl<A: Allocator> Order<A> {
     }
 
     /// Removes a place, which must be there, and puts another at the end. It takes no memory.
-    pub(crate) fn renew(&mut self, old: &Place, place: &Place)
+    pub(crate) fn renew(&mut self, old: &ItemPlace, place: &ItemPlace)
         requires order { InOrder self.old }
         requires there { list_any (same_place old.now) self.old ≡ true }
         ensures { self.new ≡ filter (λ other. not (same_place old.now other)) self.old ++ place.now ∷ [] }
@@ -143,7 +143,7 @@ impl<A: Allocator> Order<A> {
     }
 
     /// Removes the last place, and returns it.
-    pub(crate) fn pop(&mut self) -> Option<Place>
+    pub(crate) fn pop(&mut self) -> Option<ItemPlace>
         ensures { IsLastOf self.old self.new result }
     {
         let place = node::pop_last(&mut self.root)?;
@@ -154,7 +154,7 @@ impl<A: Allocator> Order<A> {
 
 impl<A: Allocator + Clone> Order<A> {
     /// A box for one more place.
-    pub(crate) fn spare(&self, place: &Place) -> Result<Link<A>, AllocError>
+    pub(crate) fn spare(&self, place: &ItemPlace) -> Result<Link<A>, AllocError>
         ensures { OnOk result (length self.now + 1 < 2 ^ 64) }
     {
         if self.count == usize::MAX {
@@ -169,7 +169,7 @@ impl<A: Allocator + Clone> TryCopy for Order<A> {
         Ok(Order {
             alloc: self.alloc.clone()?,
             count: self.count,
-            root: node::copied(&self.root, &self.alloc)?,
+            root: node::copy_nodes(&self.root, &self.alloc)?,
         })
     }
 }
@@ -177,8 +177,8 @@ impl<A: Allocator + Clone> TryCopy for Order<A> {
 // `renew`, with a step counter over this ledger.
 fn renew_from<A: Allocator, L: Ledger>(
     order: &mut Order<A>,
-    old: &Place,
-    place: &Place,
+    old: &ItemPlace,
+    place: &ItemPlace,
     blank: Blank,
 )
     requires name { blank.name ≡ L.name }

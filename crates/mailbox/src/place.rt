@@ -14,13 +14,13 @@ use std::cmp::Ordering;
 
 /// Where an item is among all that wait, in order of number, then of key; and the moment at which it ends.
 #[derive(Clone, Copy, Debug, PartialEq, Eq)]
-pub(crate) struct Place {
+pub(crate) struct ItemPlace {
     pub(crate) number: u64,
     pub(crate) key: Key,
     pub(crate) deadline: u64,
 }
 
-impl Place {
+impl ItemPlace {
     /// Whether it comes before this number and key.
     pub(crate) fn is_before(&self, number: u64, key: &Key) -> bool
         ensures { IsTrue result ↔ slice_cmp nat_cmp (place_at self.now.number self.now.key) (place_at number key.now) ≡ Less }
@@ -40,7 +40,7 @@ impl Place {
         }
     }
 
-    pub(crate) fn cmp(&self, other: &Place) -> Ordering
+    pub(crate) fn cmp(&self, other: &ItemPlace) -> Ordering
         ensures { result ≡ place_cmp self.now other.now }
     {
         named_cmp(self.number, &self.key, other.number, &other.key)

@@ -172,7 +172,7 @@ impl<A: Allocator + Clone> Mail<A> {
             return Err(fault);
         }
         let at_source = self.items_of(envelope.source);
-        if !any_at(at_source, &envelope.answered(Kind::Message)) {
+        if !any_at(at_source, &envelope.answered_key(Kind::Message)) {
             return Err(MailFault::NoSuchMessage);
         }
         let at_destination = self.items_of(envelope.destination);
@@ -205,7 +205,7 @@ impl<A: Allocator + Clone> Mail<A> {
         if let Some(fault) = absent_refusal(registry, envelope.source) {
             return Err(fault);
         }
-        self.judge_at(&envelope.answered(Kind::Report))
+        self.judge_at(&envelope.answered_key(Kind::Report))
     }
 
     /// Why `sent` would refuse this key: `NotAttached` (the destination) and `NoSuchMessage`, in this
@@ -236,5 +236,6 @@ fn opening<A: Allocator>(items: &[Item<A>], key: Key, rule: Rule) -> Opening
 fn is_alone<A: Allocator>(at_source: &[Item<A>], envelope: &Envelope) -> bool
     ensures { result ≡ (not (envelope.now.destination == envelope.now.source) && list_all (is_at (answered envelope.now kind.Message)) at_source.now) }
 {
-    envelope.destination != envelope.source && all_at(at_source, &envelope.answered(Kind::Message))
+    envelope.destination != envelope.source
+        && all_at(at_source, &envelope.answered_key(Kind::Message))
 }

@@ -1,6 +1,6 @@
 //! Sessions, each in a thread of its own, beside the flusher.
 ghost use Rattle.flusher.specs.Served.{IsSettled};
-ghost use Rattle.flusher.specs.View.{view_of};
+ghost use Rattle.flusher.specs.View.{view_of_flusher};
 
 use crate::counting_disk::WatchedDisk;
 use crate::turns::TURNS;
@@ -76,8 +76,8 @@ fn is_taken<J: Centre, R: Wait, G: Gate>(
     flusher: &mut Flusher<J, WatchedDisk>,
     gate: &G,
 ) -> bool
-    requires settled { IsSettled J.base (view_of flusher.old) }
-    ensures settled { IsSettled J.base (view_of flusher.new) }
+    requires settled { IsSettled J.base (view_of_flusher flusher.old) }
+    ensures settled { IsSettled J.base (view_of_flusher flusher.new) }
 {
     let taken = AtomicU64::new(0);
     let watched = Watched {
@@ -95,8 +95,8 @@ fn serve<J: Centre, R: Wait, T: Task<J>>(
     task: &T,
     left: &AtomicU64,
 ) -> bool
-    requires settled { IsSettled J.base (view_of flusher.old) }
-    ensures settled { IsSettled J.base (view_of flusher.new) }
+    requires settled { IsSettled J.base (view_of_flusher flusher.old) }
+    ensures settled { IsSettled J.base (view_of_flusher flusher.new) }
 {
     let mut turns: u32 = 0;
     for _ in 0..u64::MAX {
@@ -122,15 +122,15 @@ fn serve_all<J: Centre + Send + Sync, R: Threads + Wait + Sync, T: Task<J> + Syn
     task: &T,
     left: &AtomicU64,
 ) -> bool
-    requires settled { IsSettled J.base (view_of flusher.old) }
-    ensures settled { IsSettled J.base (view_of flusher.new) }
+    requires settled { IsSettled J.base (view_of_flusher flusher.old) }
+    ensures settled { IsSettled J.base (view_of_flusher flusher.new) }
 {
     let (_, served) = join_mut(
         rt,
         &mut || act_all(rt, sessions, task, left),
         &mut || -> bool
-            requires { IsSettled J.base (view_of flusher.now) }
-            ensures { IsSettled J.base (view_of flusher.exit.now) }
+            requires { IsSettled J.base (view_of_flusher flusher.now) }
+            ensures { IsSettled J.base (view_of_flusher flusher.exit.now) }
         { serve(rt, flusher, task, left) },
     );
     served
@@ -144,8 +144,8 @@ pub fn serve_beside<J: Centre + Send + Sync, R: Threads + Wait + Sync, T: Task<J
     sessions: &mut Vec<Session<J>>,
     task: &T,
 ) -> bool
-    requires settled { IsSettled J.base (view_of flusher.old) }
-    ensures settled { IsSettled J.base (view_of flusher.new) }
+    requires settled { IsSettled J.base (view_of_flusher flusher.old) }
+    ensures settled { IsSettled J.base (view_of_flusher flusher.new) }
 {
     let left = AtomicU64::new(sessions.len() as u64);
     serve_all(rt, flusher, sessions, task, &left)

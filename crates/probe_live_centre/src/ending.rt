@@ -1,5 +1,5 @@
 ghost use Rattle.flusher.specs.Served.{IsSettled};
-ghost use Rattle.flusher.specs.View.{view_of};
+ghost use Rattle.flusher.specs.View.{view_of_flusher};
 
 use crate::counting_disk::WatchedDisk;
 use crate::turns::Idle;
@@ -22,7 +22,7 @@ pub fn end_all<J: Centre, R: Wait>(
     flusher: Flusher<J, WatchedDisk>,
     sessions: Vec<Session<J>>,
 ) -> Store<Global, WatchedDisk>
-    requires settled { IsSettled J.base (view_of flusher) }
+    requires settled { IsSettled J.base (view_of_flusher flusher) }
 {
     let mut flusher = flusher;
     finish_all(rt, sessions);

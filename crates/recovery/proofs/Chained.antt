@@ -6,12 +6,12 @@ use Rattle.checkpoint.specs.declared.layout.Layout.{Layout}
 use Rattle.checkpoint.specs.declared.side.Side.{Side}
 use Rattle.checkpoint.specs.declared.side.Side.TheVariants as side
 use Rattle.checkpoint.specs.Layout.{half_at, half_end}
-use Rattle.checkpoint.specs.OnSide.{Base, Held, slot_form}
+use Rattle.checkpoint.specs.OnSide.{Base, RecordsAndGate, slot_form}
 use Rattle.recovery.specs.declared.fault.StoreFault.{StoreFault}
 use Rattle.recovery.specs.declared.fault.StoreFault.TheVariants.{BadGeometry, Broken, Damaged, DiskFault, EpochsUsedUp, NoMemory, Unformatted, Unready}
 use Rattle.recovery.specs.Label.{layout_in}
 use Rattle.recovery.specs.Opens.{Opening, base_in, chosen, held_by, opening, opens, opens_by, played, played_by, side_at, side_in, ◌>>=◌}
-use Rattle.recovery.specs.Opening.{Fails, Gives}
+use Rattle.recovery.specs.Opening.{Fails, IsValueIn}
 
 -- a fault of one step is a fault of what it is a step of
 pub fails_by : {X Y : Type 0} (e : StoreFault) (r : Result X StoreFault) (q : Result Y StoreFault) → (r ≡ Err e → q ≡ Err e) → Fails e r → Fails e q
@@ -65,16 +65,16 @@ module _ (layout : Layout) (image : List (List ℕ)) where
   side_ab a b first second = then_past a (side_at layout side.A image) with_a first ∙ then_past b (side_at layout side.B image) (λ b. chosen a b) second
 
   pub side_chosen : {X : Type 0} (view : X → Side) (a b : Option ℕ) (r : Result X StoreFault) → side_at layout side.A image ≡ Ok a →
-      side_at layout side.B image ≡ Ok b → Gives view r (chosen a b) → Gives view r (side_in layout image)
-  side_chosen view a b r first second is = subst (λ (q : Result Side StoreFault). Gives view r q) (sym (side_ab a b first second)) is
+      side_at layout side.B image ≡ Ok b → IsValueIn view r (chosen a b) → IsValueIn view r (side_in layout image)
+  side_chosen view a b r first second is = subst (λ (q : Result Side StoreFault). IsValueIn view r q) (sym (side_ab a b first second)) is
 
 -- ---- the records
 
 module _ (A : Type 0) (layout : Layout) (s : Side) (image : List (List ℕ)) where
-  abbrev pub whole : State → Result (Held A) StoreFault
+  abbrev pub whole : State → Result (RecordsAndGate A) StoreFault
   whole t = held_by (half_of (slot_form layout s image) t.count image (half_at layout s) (half_end layout s))
 
-  abbrev pub on_held : State → Held A → Result (State × ℕ) StoreFault
+  abbrev pub on_held : State → RecordsAndGate A → Result (State × ℕ) StoreFault
   on_held t held = played t held.0 >>= λ u. Ok (u, held.1)
 
   -- ---- by one side

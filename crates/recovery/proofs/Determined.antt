@@ -13,11 +13,11 @@ use Rattle.gated_journal.specs.declared.form.Form.{Form}
 use Rattle.gated_journal.specs.declared.form.Form.TheVariants.{Numbered}
 use Rattle.gated_journal.specs.contracts.form.Form as form
 use Rattle.gated_journal.specs.declared.place.Place.{Place}
-use Rattle.gated_journal.specs.Half.{Entry, half_of}
+use Rattle.gated_journal.specs.Half.{RecordAt, half_of}
 use Rattle.checkpoint.specs.declared.layout.Layout.{Layout}
 use Rattle.checkpoint.specs.declared.side.Side.{Side}
 use Rattle.checkpoint.specs.Layout.{half_at, half_end, other_of, root_at}
-use Rattle.checkpoint.specs.OnSide.{Base, HasLesserEpoch, Held, IsBelow, IsOnSide, slot_epoch, slot_in}
+use Rattle.checkpoint.specs.OnSide.{Base, HasLesserEpoch, RecordsAndGate, IsBelow, IsOnSide, slot_epoch, slot_in}
 use Rattle.recovery.specs.declared.ongoing.Ongoing.{Ongoing}
 use Rattle.sector_disk.specs.declared.disk.Disk.{Ghosts}
 use Rattle.recovery.specs.declared.store.Store.{Store}
@@ -68,12 +68,12 @@ module _ (layout : Layout) (side : Side) (epoch : ℕ) (image : List (List ℕ))
   ]
 
 module _ {A : Type 0} (asked : Coded (Asked A)) where
-  half_set : IsSet (Result (Held A) ℕ)
+  half_set : IsSet (Result (RecordsAndGate A) ℕ)
   half_set = Coded-set (coded_result (coded× (coded_list (coded× coded_ℕ (coded_list asked))) coded_ℕ) coded_ℕ)
 
   -- ---- an image on a side
 
-  module _ (layout : Layout) (side : Side) (is_of : Form) (base : Base) (held : Held A) (image : List (List ℕ)) where
+  module _ (layout : Layout) (side : Side) (is_of : Form) (base : Base) (held : RecordsAndGate A) (image : List (List ℕ)) where
     abbrev Here : Type 0
     Here = IsOnSide layout side is_of base held image
 
@@ -95,7 +95,7 @@ module _ {A : Type 0} (asked : Coded (Asked A)) where
     abbrev There : Type 0
     There = IsStored A layout side epoch journal state disk
 
-    abbrev read_half : ℕ → Result (Held A) ℕ
+    abbrev read_half : ℕ → Result (RecordsAndGate A) ℕ
     read_half count = half_of journal.form count disk.reads (half_at layout side) (half_end layout side)
 
     -- it is what the disk reads as
@@ -105,39 +105,39 @@ module _ {A : Type 0} (asked : Coded (Asked A)) where
         ok_is : (x y : Base) → ◌≡◌ {A = Result Base ℕ} (Ok x) (Ok y) → x ≡ y
         ok_is x y e = cc
 
-    same_held : (base : Base) → slot_in layout side disk.reads ≡ Ok base → (held : Held A) → read_half base.1.count ≡ Ok held → (h : There) → (h.entries, journal.next) ≡ held
+    same_held : (base : Base) → slot_in layout side disk.reads ≡ Ok base → (held : RecordsAndGate A) → read_half base.1.count ≡ Ok held → (h : There) → (h.entries, journal.next) ≡ held
     same_held base slot held is h =
         let count : h.base.count ≡ base.1.count = ap (λ (b : Base). b.1.count) (same_base base slot h) in
         ok_is (h.entries, journal.next) held (sym (h.each disk.reads sound.reads_left).half ∙ ap read_half count ∙ is)
       where
-        ok_is : (x y : Held A) → ◌≡◌ {A = Result (Held A) ℕ} (Ok x) (Ok y) → x ≡ y
+        ok_is : (x y : RecordsAndGate A) → ◌≡◌ {A = Result (RecordsAndGate A) ℕ} (Ok x) (Ok y) → x ≡ y
         ok_is x y e = cc
 
-    module _ (base : Base) (slot : slot_in layout side disk.reads ≡ Ok base) (held : Held A) (half : read_half base.1.count ≡ Ok held) (some : ∥ There ∥₁) where
+    module _ (base : Base) (slot : slot_in layout side disk.reads ≡ Ok base) (held : RecordsAndGate A) (half : read_half base.1.count ≡ Ok held) (some : ∥ There ∥₁) where
       stored_as : There
       stored_as = record {
         base = base.1;
         entries = held.0;
         each = λ image is. on_side layout side journal.form (epoch, base.1) (held.0, journal.next) image (∥∥₁_map some (λ h.
             subst (λ (b : State). IsOnSide layout side journal.form (epoch, b) (held.0, journal.next) image) (ap (λ (b : Base). b.1) (same_base base slot h))
-            (subst (λ (l : List (Entry A)). IsOnSide layout side journal.form (epoch, h.base) (l, journal.next) image)
-            (ap (λ (k : Held A). k.0) (same_held base slot held half h)) (h.each image is))));
+            (subst (λ (l : List (RecordAt A)). IsOnSide layout side journal.form (epoch, h.base) (l, journal.next) image)
+            (ap (λ (k : RecordsAndGate A). k.0) (same_held base slot held half h)) (h.each image is))));
         accepted = ∥∥₁_elim some (history_prop base.1 (commands_of held.0)) (λ h.
             subst (λ (b : State). IsHistory b (commands_of held.0)) (ap (λ (b : Base). b.1) (same_base base slot h))
-            (subst (λ (l : List (Entry A)). IsHistory h.base (commands_of l)) (ap (λ (k : Held A). k.0) (same_held base slot held half h)) h.accepted));
+            (subst (λ (l : List (RecordAt A)). IsHistory h.base (commands_of l)) (ap (λ (k : RecordsAndGate A). k.0) (same_held base slot held half h)) h.accepted));
         made = ∥∥₁_elim some (state_set _ _) (λ h.
             h.made ∙ ap (λ (b : State). after b (commands_of h.entries)) (ap (λ (b : Base). b.1) (same_base base slot h)) ∙
-            ap (λ (l : List (Entry A)). after base.1 (commands_of l)) (ap (λ (k : Held A). k.0) (same_held base slot held half h)));
+            ap (λ (l : List (RecordAt A)). after base.1 (commands_of l)) (ap (λ (k : RecordsAndGate A). k.0) (same_held base slot held half h)));
         counts = ∥∥₁_elim some (number_set _ _) (λ h. h.counts);
       }
 
-    by_half : (base : Base) → slot_in layout side disk.reads ≡ Ok base → (half : Result (Held A) ℕ) → read_half base.1.count ≡ half → ∥ There ∥₁ → There
+    by_half : (base : Base) → slot_in layout side disk.reads ≡ Ok base → (half : Result (RecordsAndGate A) ℕ) → read_half base.1.count ≡ half → ∥ There ∥₁ → There
     by_half base slot (Ok held) is some = stored_as base slot held is some
     by_half base slot (Err at) is some = absurd (∥∥₁_elim some ⊥_prop (λ h.
         let count : h.base.count ≡ base.1.count = ap (λ (b : Base). b.1.count) (same_base base slot h) in
         not_both (h.entries, journal.next) (sym (h.each disk.reads sound.reads_left).half ∙ ap read_half count ∙ is)))
       where
-        not_both : (x : Held A) → ◌≡◌ {A = Result (Held A) ℕ} (Ok x) (Err at) → ⊥
+        not_both : (x : RecordsAndGate A) → ◌≡◌ {A = Result (RecordsAndGate A) ℕ} (Ok x) (Err at) → ⊥
         not_both x e = absurd cc
 
     by_slot : (slot : Result Base ℕ) → slot_in layout side disk.reads ≡ slot → ∥ There ∥₁ → There
@@ -156,35 +156,35 @@ module _ {A : Type 0} (asked : Coded (Asked A)) where
     abbrev Begun : Type 0
     Begun = IsOngoing A layout side epoch it state disk
 
-    abbrev other_half : List (List ℕ) → Result (Held A) ℕ
+    abbrev other_half : List (List ℕ) → Result (RecordsAndGate A) ℕ
     other_half image = half_of Numbered it.register.count image (half_at layout (other_of side)) (half_end layout (other_of side))
 
-    same_entries : (held : Held A) → other_half disk.reads ≡ Ok held → (h : Begun) → h.entries ≡ held.0
-    same_entries held is h = ap (λ (k : Held A). k.0) (ok_is (h.entries, it.journal.next) held (sym (h.begun.half disk.reads sound.reads_left) ∙ is))
+    same_entries : (held : RecordsAndGate A) → other_half disk.reads ≡ Ok held → (h : Begun) → h.entries ≡ held.0
+    same_entries held is h = ap (λ (k : RecordsAndGate A). k.0) (ok_is (h.entries, it.journal.next) held (sym (h.begun.half disk.reads sound.reads_left) ∙ is))
       where
-        ok_is : (x y : Held A) → ◌≡◌ {A = Result (Held A) ℕ} (Ok x) (Ok y) → x ≡ y
+        ok_is : (x y : RecordsAndGate A) → ◌≡◌ {A = Result (RecordsAndGate A) ℕ} (Ok x) (Ok y) → x ≡ y
         ok_is x y e = cc
 
-    begun_as : (held : Held A) → other_half disk.reads ≡ Ok held → ∥ Begun ∥₁ → Begun
+    begun_as : (held : RecordsAndGate A) → other_half disk.reads ≡ Ok held → ∥ Begun ∥₁ → Begun
     begun_as held is some = record {
       entries = held.0;
       begun = record {
         root = λ image left. ∥∥₁_elim some ¬_prop (λ h. h.begun.root image left);
-        half = λ image left. ∥∥₁_elim some (half_set _ _) (λ h. subst (λ (l : List (Entry A)). other_half image ≡ Ok (l, it.journal.next)) (same_entries held is h) (h.begun.half image left));
+        half = λ image left. ∥∥₁_elim some (half_set _ _) (λ h. subst (λ (l : List (RecordAt A)). other_half image ≡ Ok (l, it.journal.next)) (same_entries held is h) (h.begun.half image left));
         gate = ∥∥₁_elim some le_prop (λ h. h.begun.gate);
         rows = λ k lt. ∥∥₁_elim some (bytes_set _ _) (λ h. h.begun.rows k lt);
         few = ∥∥₁_elim some le_prop (λ h. h.begun.few);
       };
-      accepted = ∥∥₁_elim some (history_prop it.register (commands_of held.0)) (λ h. subst (λ (l : List (Entry A)). IsHistory it.register (commands_of l)) (same_entries held is h) h.accepted);
-      made = ∥∥₁_elim some (state_set _ _) (λ h. h.made ∙ ap (λ (l : List (Entry A)). after it.register (commands_of l)) (same_entries held is h));
+      accepted = ∥∥₁_elim some (history_prop it.register (commands_of held.0)) (λ h. subst (λ (l : List (RecordAt A)). IsHistory it.register (commands_of l)) (same_entries held is h) h.accepted);
+      made = ∥∥₁_elim some (state_set _ _) (λ h. h.made ∙ ap (λ (l : List (RecordAt A)). after it.register (commands_of l)) (same_entries held is h));
       counts = ∥∥₁_elim some (number_set _ _) (λ h. h.counts);
     }
 
-    by_read : (half : Result (Held A) ℕ) → other_half disk.reads ≡ half → ∥ Begun ∥₁ → Begun
+    by_read : (half : Result (RecordsAndGate A) ℕ) → other_half disk.reads ≡ half → ∥ Begun ∥₁ → Begun
     by_read (Ok held) is some = begun_as held is some
     by_read (Err at) is some = absurd (∥∥₁_elim some ⊥_prop (λ h. not_both (h.entries, it.journal.next) (sym (h.begun.half disk.reads sound.reads_left) ∙ is)))
       where
-        not_both : (x : Held A) → ◌≡◌ {A = Result (Held A) ℕ} (Ok x) (Err at) → ⊥
+        not_both : (x : RecordsAndGate A) → ◌≡◌ {A = Result (RecordsAndGate A) ℕ} (Ok x) (Err at) → ⊥
         not_both x e = absurd cc
 
     begun_is : ∥ Begun ∥₁ → Begun

@@ -14,13 +14,13 @@ use Rattle.centre_core.specs.Histories.{IsHistory}
 use Rattle.centre_core.proofs.InTurnLaws.{after-append, history-append}
 use Rattle.gated_journal.specs.declared.form.Form.{Form}
 use Rattle.gated_journal.specs.declared.place.Place.{Place}
-use Rattle.gated_journal.specs.Half.{Entry, Half, IsClosed, IsOpen, half_from, half_of, half_on, record_at, with_prefix}
+use Rattle.gated_journal.specs.Half.{RecordAt, Half, IsClosed, IsOpen, half_from, half_of, half_on, record_at, with_prefix}
 use Rattle.gated_journal.proofs.Halves.{opened}
 use Rattle.checkpoint.specs.declared.layout.Layout.{Layout}
 use Rattle.checkpoint.specs.declared.side.Side.{Side}
 use Rattle.checkpoint.specs.declared.side.Side.TheVariants as side
 use Rattle.checkpoint.specs.Layout.{half_at, half_end, label_at, other_of, root_at, slot_at}
-use Rattle.checkpoint.specs.OnSide.{Base, Held, IsBelow, IsInSlot, IsOnSide, slot_epoch, slot_form}
+use Rattle.checkpoint.specs.OnSide.{Base, RecordsAndGate, IsBelow, IsInSlot, IsOnSide, slot_epoch, slot_form}
 use Rattle.checkpoint.proofs.Apart.{lies}
 use Rattle.checkpoint.proofs.Epochs.{slot_has_epoch}
 use Rattle.recovery.specs.declared.fault.StoreFault.{StoreFault}
@@ -113,14 +113,14 @@ taken_is at None s e = absurd cc
 taken_is at (Some t) s e = ap Some (ok_is t s e)
 
 module _ {A : Type 0} where
-  gate_is : (a b : List (Entry A)) (m n : ℕ) → ◌≡◌ {A = Half A} (Ok (a, m)) (Ok (b, n)) → m ≡ n
-  gate_is a b m n e = let pair : ◌≡◌ {A = List (Entry A) × ℕ} (a, m) (b, n) = cc in ap (λ (x : List (Entry A) × ℕ). x.1) pair
+  gate_is : (a b : List (RecordAt A)) (m n : ℕ) → ◌≡◌ {A = Half A} (Ok (a, m)) (Ok (b, n)) → m ≡ n
+  gate_is a b m n e = let pair : ◌≡◌ {A = List (RecordAt A) × ℕ} (a, m) (b, n) = cc in ap (λ (x : List (RecordAt A) × ℕ). x.1) pair
 
-  after_prefix : (entry : Entry A) (half : Half A) (entries : List (Entry A)) (gate : ℕ) → with_prefix (entry ∷ []) half ≡ Ok (entries, gate) → (rest : List (Entry A)) × (half ≡ Ok (rest, gate))
+  after_prefix : (entry : RecordAt A) (half : Half A) (entries : List (RecordAt A)) (gate : ℕ) → with_prefix (entry ∷ []) half ≡ Ok (entries, gate) → (rest : List (RecordAt A)) × (half ≡ Ok (rest, gate))
   after_prefix entry (Ok half) entries gate e = (half.0, ap (λ (n : ℕ). Ok (half.0, n)) (gate_is (entry ∷ half.0) entries half.1 gate e))
   after_prefix entry (Err s) entries gate e = absurd cc
 
-  held_is : (r : Half A) (held : Held A) → held_by r ≡ Ok held → r ≡ Ok held
+  held_is : (r : Half A) (held : RecordsAndGate A) → held_by r ≡ Ok held → r ≡ Ok held
   held_is (Ok h) held e = ap Ok (ok_is h held e)
   held_is (Err at) held e = absurd cc
 
@@ -132,7 +132,7 @@ module _ {A : Type 0} where
       let later = run_history (next s c) t cs here.1 in
       ((here.0, later.0), later.1)
 
-  pub played_history : (s t : State) (entries : List (Entry A)) → played s entries ≡ Ok t → IsHistory s (commands_of entries) × (t ≡ after s (commands_of entries))
+  pub played_history : (s t : State) (entries : List (RecordAt A)) → played s entries ≡ Ok t → IsHistory s (commands_of entries) × (t ≡ after s (commands_of entries))
   unfolding played
   played_history s t [] e = (tt, sym (ok_is s t e))
   played_history s t (entry ∷ entries) e =
@@ -146,7 +146,7 @@ module _ {A : Type 0} where
 
 module _ {A : Type 0} where
   -- a half's first closed gate lies within it
-  last_before : (fuel : ℕ) (form : Form) (before : ℕ) (image : List (List ℕ)) (at end : ℕ) (entries : List (Entry A)) (gate : ℕ) → at < end →
+  last_before : (fuel : ℕ) (form : Form) (before : ℕ) (image : List (List ℕ)) (at end : ℕ) (entries : List (RecordAt A)) (gate : ℕ) → at < end →
       end ≤ at + fuel → half_from fuel form before image at end ≡ Ok (entries, gate) → gate < end
   unfolding half_from
   last_before zero form before image at end entries gate lt le e = absurd (omega (arith, lt, le))
@@ -158,7 +158,7 @@ module _ {A : Type 0} where
         | Ok o ↦ λ is f. on (λ x rest. last_before fuel form (before + length x.0) image x.1 end rest gate) o is f
       ] refl e
     where
-      on : ((x : List (Asked A) × ℕ) (rest : List (Entry A)) → x.1 < end → end ≤ x.1 + fuel →
+      on : ((x : List (Asked A) × ℕ) (rest : List (RecordAt A)) → x.1 < end → end ≤ x.1 + fuel →
           half_from fuel form (before + length x.0) image x.1 end ≡ Ok (rest, gate) → gate < end) → (o : Option (List (Asked A) × ℕ)) →
           record_at form before image at end ≡ Ok o
           → half_on at (Ok o) (λ x. half_from fuel form (before + length x.0) image x.1 end) ≡ Ok (entries, gate) → gate < end
@@ -173,7 +173,7 @@ module _ {A : Type 0} where
 -- what lies after an opening
 pub record After (A : Type 0) (o : Opening) (image : List (List ℕ)) : Type 0 where
   pub base : State
-  pub entries : List (Entry A)
+  pub entries : List (RecordAt A)
   pub label : layout_in image ≡ Ok o.layout
   pub side : side_in o.layout image ≡ Ok o.side
   pub slot : IsInSlot o.layout o.side (o.epoch, base) image
@@ -194,7 +194,7 @@ module _ (A : Type 0) where
       let ended = then_ok (played_by A layout s base.1 image) (λ end. Ok (opening layout s base.0 end.1 end.0)) o based.2 in
       let end : State × ℕ = ended.0 in
       let read = then_ok (whole A layout s image base.1) (on_held A layout s image base.1) end ended.1 in
-      let held : Held A = read.0 in
+      let held : RecordsAndGate A = read.0 in
       let ran = then_ok (played base.1 held.0) (λ u. Ok (u, held.1)) end read.2 in
       let history = played_history base.1 ran.0 held.0 ran.1 in
       let same : ◌≡◌ {A = State × ℕ} (ran.0, held.1) end = ok_is (ran.0, held.1) end ran.2 in

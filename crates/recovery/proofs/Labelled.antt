@@ -10,7 +10,7 @@ use Rattle.registration.specs.Limits.{AreLimits, rule_capacity, radio_capacity, 
 use Rattle.registration.specs.declared.limits.Limits.{Limits}
 use Rattle.command_bytes.specs.Fields.{◌>>=◌, big}
 use Rattle.command_bytes.proofs.Numbers.{length-big, number_again}
-use Rattle.checkpoint.specs.Half.{IsHalfSize, fewest_sectors, most_sectors}
+use Rattle.checkpoint.specs.Half.{IsHalfSize, fewest_sectors, most_half_sectors}
 use Rattle.checkpoint.specs.declared.layout.Layout.{Layout}
 use Rattle.checkpoint.specs.Label.{IsLabel, label_size, label_text, layout_number, name}
 use Rattle.checkpoint.specs.Layout.{disk_size, label_at}
@@ -73,7 +73,7 @@ layout_made layout false is passes = absurd cc
 
 layout_again : (layout : Layout) → layout_of layout.limits layout.journal ≡ Some layout
 layout_again layout = layout_made layout (is_half_size layout.journal) (half_size_passes layout.journal)
-    (within_passes fewest_sectors most_sectors layout.journal layout.in_range.fewest layout.in_range.most)
+    (within_passes fewest_sectors most_half_sectors layout.journal layout.in_range.fewest layout.in_range.most)
 
 -- ---- the numbers of a layout
 

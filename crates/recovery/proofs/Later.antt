@@ -9,7 +9,7 @@ use Rattle.centre_core.specs.Asked.{Asked}
 use Rattle.gated_journal.specs.declared.form.Form.{Form}
 use Rattle.gated_journal.specs.declared.place.Place.{Place}
 use Rattle.gated_journal.specs.Half.{Found, data_from, found, record_at, stated_size}
-use Rattle.gated_journal.specs.Record.{most_sectors, record_of}
+use Rattle.gated_journal.specs.Record.{most_data_sectors, record_of}
 use Rattle.gated_journal.specs.Settled.{record_in}
 use Rattle.checkpoint.specs.declared.layout.Layout.{Layout}
 use Rattle.checkpoint.specs.declared.side.Side.{Side}
@@ -38,7 +38,7 @@ module _ (A : Type 0) (at bad : ℕ) where
       let size = stated_size form (sector image (at + 1)) in
       let next = at + 1 + size in
       let commands = record_of {A = A} form before (data_from image (at + 1) size) in
-      by_tests (eqb (slice_index (sector image at) 0) 1) (eqb (at + 1) end) (leb size most_sectors && ltb next end) (found (at + 1) next commands) (found_from next commands) e
+      by_tests (eqb (slice_index (sector image at) 0) 1) (eqb (at + 1) end) (leb size most_data_sectors && ltb next end) (found (at + 1) next commands) (found_from next commands) e
 
 -- ---- the gate after a record
 

@@ -10,7 +10,7 @@ use Rattle.checkpoint.specs.declared.layout.Layout.{Layout}
 use Rattle.checkpoint.specs.declared.side.Side.{Side}
 use Rattle.checkpoint.specs.Layout.{half_at, half_end, slot_at}
 use Rattle.checkpoint.specs.Reading.{image_reads}
-use Rattle.checkpoint.specs.OnSide.{Base, Held, IsInSlot, IsOnSide, slot_form, slot_in}
+use Rattle.checkpoint.specs.OnSide.{Base, RecordsAndGate, IsInSlot, IsOnSide, slot_form, slot_in}
 use Rattle.checkpoint.proofs.Apart.{lies}
 use Rattle.checkpoint.proofs.Epochs.{slot_has_epoch}
 use Rattle.recovery.specs.Opens.{base_in, opening, opens, opens_by, placed, played_by}
@@ -51,7 +51,7 @@ so_far A layout s base image old mid new rows calls (inl none) = inl (record {
     no_bad (Ok b) base place good bad = absurd cc
     no_bad (Err p) base place good bad = absurd cc
 
-module _ {A : Type 0} (layout : Layout) (s : Side) (form : Form) (base : Base) (held : Held A) (image : List (List ℕ)) where
+module _ {A : Type 0} (layout : Layout) (s : Side) (form : Form) (base : Base) (held : RecordsAndGate A) (image : List (List ℕ)) where
   by_side : IsOnSide layout s form base held image → IsHistory base.1 (commands_of held.0) → opens_by A layout s image ≡ Ok (opening layout s base.0 held.1 (after base.1 (commands_of held.0)))
   unfolding opens_by played_by
   by_side holds history = rw (base_found layout s base image holds.slot) (rw (holds.form_is, holds.half) (rw (history_played base.1 held.0 history) refl))

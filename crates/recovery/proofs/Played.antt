@@ -5,7 +5,7 @@ use Rattle.centre_core.specs.State.{State}
 use Rattle.centre_core.specs.History.{after, next}
 use Rattle.centre_core.specs.Histories.{IsHistory}
 use Rattle.centre_core.proofs.InTurnLaws.{after-append}
-use Rattle.gated_journal.specs.Half.{Entry}
+use Rattle.gated_journal.specs.Half.{RecordAt}
 use Rattle.recovery.specs.Opens.{played, run}
 use Rattle.recovery.specs.OpensTo.{commands_of}
 
@@ -24,7 +24,7 @@ module _ {A : Type 0} where
   history_runs s [] is = refl
   history_runs s (c ∷ cs) is = rw is.0 (history_runs (next s c) cs is.1)
 
-  pub history_played : (s : State) (entries : List (Entry A)) → IsHistory s (commands_of entries) → played s entries ≡ Ok (after s (commands_of entries))
+  pub history_played : (s : State) (entries : List (RecordAt A)) → IsHistory s (commands_of entries) → played s entries ≡ Ok (after s (commands_of entries))
   unfolding played
   history_played s [] is = refl
   history_played s (entry ∷ entries) is =

@@ -18,7 +18,7 @@ use Rattle.centre_core.proofs.StateLaws.{next_is_state}
 use Rattle.registration.specs.declared.limits.Limits.{Limits}
 use Rattle.image_rows.proofs.Images.{image_is_spelt}
 use Rattle.gated_journal.specs.declared.form.Form.{Form}
-use Rattle.gated_journal.specs.Half.{Entry, Half, data_from, half_from, half_on, record_at, stated_size, with_prefix}
+use Rattle.gated_journal.specs.Half.{RecordAt, Half, data_from, half_from, half_on, record_at, stated_size, with_prefix}
 use Rattle.gated_journal.proofs.Halves.{opened}
 use Rattle.gated_journal.proofs.Listed.{record_taken}
 use Rattle.checkpoint.specs.Layout.{half_at, half_end, slot_at, slot_size}
@@ -61,23 +61,23 @@ module _ (image : List (List ℕ)) (are : AreSectors image) where
   -- ---- the commands of a half
 
   module _ {A : Type 0} where
-    abbrev Mine : Entry A → Type 0
+    abbrev Mine : RecordAt A → Type 0
     Mine entry = All IsCommand entry.1
 
-    entries_is : (entry : Entry A) (half : Half A) (entries : List (Entry A)) (gate : ℕ) → with_prefix (entry ∷ []) half ≡ Ok (entries, gate) →
-        (rest : List (Entry A)) × (half ≡ Ok (rest, gate)) × (entries ≡ entry ∷ rest)
+    entries_is : (entry : RecordAt A) (half : Half A) (entries : List (RecordAt A)) (gate : ℕ) → with_prefix (entry ∷ []) half ≡ Ok (entries, gate) →
+        (rest : List (RecordAt A)) × (half ≡ Ok (rest, gate)) × (entries ≡ entry ∷ rest)
     entries_is entry (Ok half) entries gate e =
-        let pair : ◌≡◌ {A = List (Entry A) × ℕ} (entry ∷ half.0, half.1) (entries, gate) = cc in
-        (half.0, ap (λ (x : List (Entry A) × ℕ). Ok (half.0, x.1)) pair, sym (ap (λ (x : List (Entry A) × ℕ). x.0) pair))
+        let pair : ◌≡◌ {A = List (RecordAt A) × ℕ} (entry ∷ half.0, half.1) (entries, gate) = cc in
+        (half.0, ap (λ (x : List (RecordAt A) × ℕ). Ok (half.0, x.1)) pair, sym (ap (λ (x : List (RecordAt A) × ℕ). x.0) pair))
     entries_is entry (Err s) entries gate e = absurd cc
 
-    no_entries : (at : ℕ) (entries : List (Entry A)) (gate : ℕ) → (let r : Half A = Ok ([], at) in r) ≡ Ok (entries, gate) → entries ≡ []
-    no_entries at entries gate e = let pair : ◌≡◌ {A = List (Entry A) × ℕ} ([], at) (entries, gate) = cc in sym (ap (λ (x : List (Entry A) × ℕ). x.0) pair)
+    no_entries : (at : ℕ) (entries : List (RecordAt A)) (gate : ℕ) → (let r : Half A = Ok ([], at) in r) ≡ Ok (entries, gate) → entries ≡ []
+    no_entries at entries gate e = let pair : ◌≡◌ {A = List (RecordAt A) × ℕ} ([], at) (entries, gate) = cc in sym (ap (λ (x : List (RecordAt A) × ℕ). x.0) pair)
 
-    none_mine : (at : ℕ) (entries : List (Entry A)) (gate : ℕ) → (let r : Half A = Ok ([], at) in r) ≡ Ok (entries, gate) → All Mine entries
+    none_mine : (at : ℕ) (entries : List (RecordAt A)) (gate : ℕ) → (let r : Half A = Ok ([], at) in r) ≡ Ok (entries, gate) → All Mine entries
     none_mine at entries gate e = subst (All Mine) (sym (no_entries at entries gate e)) (All-nil Mine)
 
-    half_commands : (fuel : ℕ) (form : Form) (before at end : ℕ) (entries : List (Entry A)) (gate : ℕ) → half_from fuel form before image at end ≡ Ok (entries, gate) → All Mine entries
+    half_commands : (fuel : ℕ) (form : Form) (before at end : ℕ) (entries : List (RecordAt A)) (gate : ℕ) → half_from fuel form before image at end ≡ Ok (entries, gate) → All Mine entries
     unfolding half_from
     half_commands zero form before at end entries gate e = none_mine at entries gate e
     half_commands (suc fuel) form before at end entries gate e =
@@ -88,7 +88,7 @@ module _ (image : List (List ℕ)) (are : AreSectors image) where
           | Ok o ↦ λ is f. on (λ x rest. half_commands fuel form (before + length x.0) x.1 end rest gate) o is f
         ] refl e
       where
-        on : ((x : List (Asked A) × ℕ) (rest : List (Entry A)) → half_from fuel form (before + length x.0) image x.1 end ≡ Ok (rest, gate) →
+        on : ((x : List (Asked A) × ℕ) (rest : List (RecordAt A)) → half_from fuel form (before + length x.0) image x.1 end ≡ Ok (rest, gate) →
             All Mine rest) → (o : Option (List (Asked A) × ℕ)) → record_at form before image at end ≡ Ok o
             → half_on at (Ok o) (λ x. half_from fuel form (before + length x.0) image x.1 end) ≡ Ok (entries, gate) → All Mine entries
         on go None is f = none_mine at entries gate f
@@ -102,10 +102,10 @@ module _ (image : List (List ℕ)) (are : AreSectors image) where
 -- ---- the state after them
 
 module _ {A : Type 0} where
-  all_commands : (entries : List (Entry A)) → All (λ (entry : Entry A). All IsCommand entry.1) entries → All IsCommand (commands_of entries)
+  all_commands : (entries : List (RecordAt A)) → All (λ (entry : RecordAt A). All IsCommand entry.1) entries → All IsCommand (commands_of entries)
   all_commands [] are = All-nil IsCommand
   all_commands (entry ∷ entries) are =
-      let P = λ (entry : Entry A). All IsCommand entry.1 in
+      let P = λ (entry : RecordAt A). All IsCommand entry.1 in
       All-append IsCommand entry.1 (commands_of entries) (All-head P entry entries are) (all_commands entries (All-tail P entry entries are))
 
   ranged_after : (limits : Limits) (s : State) (cs : List (Asked A)) → All IsCommand cs → IsRanged limits s → IsRanged limits (after s cs)

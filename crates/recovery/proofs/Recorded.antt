@@ -20,7 +20,7 @@ use Rattle.image_rows.specs.Image.{slot_of}
 use Rattle.gated_journal.specs.declared.form.Form.{Form}
 use Rattle.gated_journal.specs.declared.form.Form.TheVariants.{Numbered, Plain}
 use Rattle.gated_journal.specs.declared.place.Place.{Place}
-use Rattle.gated_journal.specs.Half.{Entry, counted, half_of}
+use Rattle.gated_journal.specs.Half.{RecordAt, counted, half_of}
 use Rattle.gated_journal.specs.Record.{data_size, given, head_len}
 use Rattle.gated_journal.specs.Settled.{IsSettled, LeavesBoth, following, room_of, text_at}
 use Rattle.gated_journal.proofs.Chain.{half_below}
@@ -30,7 +30,7 @@ use Rattle.checkpoint.specs.declared.side.Side.{Side}
 use Rattle.checkpoint.specs.declared.side.Side.TheVariants as side
 use Rattle.checkpoint.specs.Label.{label_size}
 use Rattle.checkpoint.specs.Layout.{half_at, half_end, label_at, other_of, root_at, slot_at, slot_size}
-use Rattle.checkpoint.specs.OnSide.{Base, Held, IsInHalf, IsOnSide, stated_form}
+use Rattle.checkpoint.specs.OnSide.{Base, RecordsAndGate, IsInHalf, IsOnSide, stated_form}
 use Rattle.checkpoint.proofs.Apart.{lies}
 use Rattle.checkpoint.proofs.Imaged.{rows_have_room}
 use Rattle.checkpoint.proofs.Spared.{below_same, closed_as, left_each, sectors_same}
@@ -110,7 +110,7 @@ pub record IsHalvesTorn (layout : Layout) (was image : List (List ℕ)) : Type 0
   pub prefix : (k : ℕ) → k < 3 + 2 * slot_size layout → sector image k ≡ sector was k
 
 module _ {A : Type 0} (layout : Layout) (s : Side) (form : Form) (base : Base) where
-  pub halves_on_side : (held more : Held A) (was image : List (List ℕ)) → IsOnSide layout s form base held was → IsHalvesTorn layout was image →
+  pub halves_on_side : (held more : RecordsAndGate A) (was image : List (List ℕ)) → IsOnSide layout s form base held was → IsHalvesTorn layout was image →
       IsInHalf layout s form base more image → more.1 < half_end layout s → IsOnSide layout s form base more image
   halves_on_side held more was image holds torn half gate =
       let places = lies layout s in
@@ -129,9 +129,9 @@ module _ {A : Type 0} (layout : Layout) (s : Side) (form : Form) (base : Base) w
 
 -- ---- records and one more
 
-module _ {A : Type 0} (base s : State) (entries : List (Entry A)) (at : ℕ) (cs : List (Asked A)) where
+module _ {A : Type 0} (base s : State) (entries : List (RecordAt A)) (at : ℕ) (cs : List (Asked A)) where
   all_of : commands_of (entries ++ (at, cs) ∷ []) ≡ commands_of entries ++ cs
-  all_of = flat_map-append (λ (entry : Entry A). entry.1) entries ((at, cs) ∷ []) ∙ ap (λ (l : List (Asked A)). commands_of entries ++ l) (append-nil cs)
+  all_of = flat_map-append (λ (entry : RecordAt A). entry.1) entries ((at, cs) ∷ []) ∙ ap (λ (l : List (Asked A)). commands_of entries ++ l) (append-nil cs)
 
   module _ (accepted : IsHistory base (commands_of entries)) (made : s ≡ after base (commands_of entries)) where
     more_accepted : IsHistory s cs → IsHistory base (commands_of (entries ++ (at, cs) ∷ []))
@@ -174,10 +174,10 @@ module _ (A : Type 0) (layout : Layout) (side : Side) (epoch : ℕ) (x : Place) 
   }
 
   module _ (cs : List (Asked A)) (history : IsHistory s cs) where
-    abbrev last : Entry A
+    abbrev last : RecordAt A
     last = (x.next + 1, cs)
 
-    abbrev other : Entry A
+    abbrev other : RecordAt A
     other = (it.journal.next + 1, cs)
 
     abbrev Left : List (List ℕ) → Type 0
@@ -194,7 +194,7 @@ module _ (A : Type 0) (layout : Layout) (side : Side) (epoch : ℕ) (x : Place) 
         let first = belongs.first in
         same k (inl (omega (arith, lt, first_is, places.halves))) (inl (omega (arith, lt, first, others.halves)))
 
-    image_opens : (entries : List (Entry A)) (gate : ℕ) (image : List (List ℕ)) → Left image →
+    image_opens : (entries : List (RecordAt A)) (gate : ℕ) (image : List (List ℕ)) → Left image →
         half_of x.form stored.base.count image x.first x.end ≡ Ok (entries, gate) →
         IsOnSide layout side x.form (epoch, stored.base) (entries, gate) image
     image_opens entries gate image leaves half =

@@ -16,9 +16,9 @@ use Rattle.image_rows.specs.RowReading.{IsRow, Spells, row_in}
 use Rattle.image_rows.specs.RowText.{row_bytes, sector_of}
 use Rattle.image_rows.specs.Loading.{◌>>=◌, Loading, begun, finished, row_taken}
 use Rattle.image_rows.specs.Held.{taken_from}
-use Rattle.recovery.specs.declared.damaged.Kind.{Kind}
-use Rattle.recovery.specs.declared.damaged.Kind.TheVariants as kind
-use Rattle.recovery.specs.Rests.{AreLaterOf, HasHeader, HasNoRest, IsGreaterSide, IsLeft, IsRestOf, Kept, LeadsTo, NothingIsLeft, left_in, kept_with}
+use Rattle.recovery.specs.declared.damaged.DamageKind.{DamageKind}
+use Rattle.recovery.specs.declared.damaged.DamageKind.TheVariants as kind
+use Rattle.recovery.specs.Rests.{AreLaterOf, HasHeader, HasNoRest, IsGreaterSide, IsLeft, IsRestOf, KeptRows, LeadsTo, NothingIsLeft, left_in, kept_with}
 use Rattle.recovery.specs.Rests.{lowered, made_by, made_or, none_kept, rows_kept, rows_stated, run_while, with_row}
 use Rattle.recovery.specs.Rests.{closed, left, played, refused, unreadable}
 use Rattle.recovery.specs.Inside.Rests.{HasAtMost, LeadsFrom}
@@ -41,20 +41,20 @@ use Rattle.gated_journal.specs.Settled.{record_in}
 -- ---- rows
 
 -- one row more
-pub row_on : (image : List (List ℕ)) (slot : ℕ) (h : Header) (k : ℕ) (first now new : Kept) → now ≡ rows_kept image slot h first k
+pub row_on : (image : List (List ℕ)) (slot : ℕ) (h : Header) (k : ℕ) (first now new : KeptRows) → now ≡ rows_kept image slot h first k
     → new ≡ kept_with h (k + 1) (sector image (slot + (k + 1))) now → new ≡ rows_kept image slot h first (k + 1)
 unfolding rows_kept
 row_on image slot h k first now new was is =
     let one : rows_kept image slot h first (k + 1) ≡ rows_kept image slot h first (suc k) = ap (rows_kept image slot h first) (add-one k) in
     is ∙ ap (kept_with h (k + 1) (sector image (slot + (k + 1)))) was ∙ sym one
 
-pub none_on : (image : List (List ℕ)) (slot : ℕ) (h : Header) (first : Kept) → first ≡ rows_kept image slot h first 0
+pub none_on : (image : List (List ℕ)) (slot : ℕ) (h : Header) (first : KeptRows) → first ≡ rows_kept image slot h first 0
 unfolding rows_kept
 none_on image slot h first = refl
 
 -- ---- how many rows
 
-pub one_more : (n : ℕ) (h : Header) (what : Kind) → HasAtMost n h → HasAtMost (n + 1) (with_row h what)
+pub one_more : (n : ℕ) (h : Header) (what : DamageKind) → HasAtMost n h → HasAtMost (n + 1) (with_row h what)
 one_more n h kind.Rule most = record { rules = omega (arith, most.rules); radios = omega (arith, most.radios); mail = omega (arith, most.mail); served = omega (arith, most.served) }
 one_more n h kind.Radio most = record { rules = omega (arith, most.rules); radios = omega (arith, most.radios); mail = omega (arith, most.mail); served = omega (arith, most.served) }
 one_more n h kind.Item most = record { rules = omega (arith, most.rules); radios = omega (arith, most.radios); mail = omega (arith, most.mail); served = omega (arith, most.served) }
@@ -175,18 +175,18 @@ module _ (limits : Limits) (image : List (List ℕ)) (slot : ℕ) (stated : Head
   made = made_by limits image slot stated
 
   -- all rows have come
-  pub made_now : (n : ℕ) (h : Header) (kept : Kept) (base : ℕ × State) → kept ≡ rows_kept image slot stated (none_kept limits h stated) (rows_stated stated)
+  pub made_now : (n : ℕ) (h : Header) (kept : KeptRows) (base : ℕ × State) → kept ≡ rows_kept image slot stated (none_kept limits h stated) (rows_stated stated)
       → finished kept.loading ≡ Some base → made (n + 1) h ≡ Some (h, base.1)
   unfolding made_by
   made_now n h kept base is whole = ap (λ (k : ℕ). made k h) (add-one n) ∙
-      ap (λ (k : Kept). made_or h (finished k.loading) (made n (lowered h k.rows))) (sym is) ∙
+      ap (λ (k : KeptRows). made_or h (finished k.loading) (made n (lowered h k.rows))) (sym is) ∙
       ap (λ (b : Option (ℕ × State)). made_or h b (made n (lowered h kept.rows))) whole
 
   -- some have not
-  pub made_later : (n : ℕ) (h : Header) (kept : Kept) → kept ≡ rows_kept image slot stated (none_kept limits h stated) (rows_stated stated)
+  pub made_later : (n : ℕ) (h : Header) (kept : KeptRows) → kept ≡ rows_kept image slot stated (none_kept limits h stated) (rows_stated stated)
       → finished kept.loading ≡ None → made (n + 1) h ≡ made n (lowered h kept.rows)
   unfolding made_by
-  made_later n h kept is short = ap (λ (k : ℕ). made k h) (add-one n) ∙ ap (λ (k : Kept). made_or h (finished k.loading) (made n (lowered h k.rows)))
+  made_later n h kept is short = ap (λ (k : ℕ). made k h) (add-one n) ∙ ap (λ (k : KeptRows). made_or h (finished k.loading) (made n (lowered h k.rows)))
       (sym is) ∙ ap (λ (b : Option (ℕ × State)). made_or h b (made n (lowered h kept.rows))) short
 
   pub made_never : (h : Header) → made 0 h ≡ None

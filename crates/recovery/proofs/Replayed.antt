@@ -5,10 +5,10 @@ use Rattle.centre_core.specs.State.{State}
 use Rattle.gated_journal.specs.declared.fault.JournalError.{JournalError}
 use Rattle.gated_journal.specs.declared.fault.JournalError.TheVariants as journal
 use Rattle.gated_journal.specs.declared.form.Form.{Form}
-use Rattle.gated_journal.specs.Half.{Entry, Half, half_of, record_at, with_prefix}
+use Rattle.gated_journal.specs.Half.{RecordAt, Half, half_of, record_at, with_prefix}
 use Rattle.gated_journal.specs.Reading as reading
 use Rattle.gated_journal.proofs.Halves.{error_on, prefix_closed, prefix_more, prefix_none}
-use Rattle.checkpoint.specs.OnSide.{Held}
+use Rattle.checkpoint.specs.OnSide.{RecordsAndGate}
 use Rattle.recovery.specs.declared.fault.StoreFault.{StoreFault}
 use Rattle.recovery.specs.declared.fault.StoreFault.TheVariants.{NoMemory}
 use Rattle.recovery.specs.Opens.{held_by, played, played_from, run, taken, ◌>>=◌}
@@ -27,7 +27,7 @@ is_no_memory journal.JournalFull is = absurd cc
 
 module _ {A : Type 0} where
   -- the records of the half are good
-  pub stops_good : (e : StoreFault) (held : Held A) (half : Half A) (is : Result (State × ℕ) StoreFault) → half ≡ Ok held → Stops e (held_by half) is → Fails e is
+  pub stops_good : (e : StoreFault) (held : RecordsAndGate A) (half : Half A) (is : Result (State × ℕ) StoreFault) → half ≡ Ok held → Stops e (held_by half) is → Fails e is
   stops_good e held half is good stops = subst (λ (h : Half A). Stops e (held_by h) is) good stops
 
   -- they are not
@@ -40,11 +40,11 @@ module _ {A : Type 0} where
 
   -- ---- records that are played
 
-  prefix_twice : (prefix more : List (Entry A)) (half : Half A) → with_prefix prefix (with_prefix more half) ≡ with_prefix (prefix ++ more) half
-  prefix_twice prefix more (Ok half) = ap (λ (entries : List (Entry A)). Ok (entries, half.1)) (sym (append_assoc prefix more half.0))
+  prefix_twice : (prefix more : List (RecordAt A)) (half : Half A) → with_prefix prefix (with_prefix more half) ≡ with_prefix (prefix ++ more) half
+  prefix_twice prefix more (Ok half) = ap (λ (entries : List (RecordAt A)). Ok (entries, half.1)) (sym (append_assoc prefix more half.0))
   prefix_twice prefix more (Err s) = refl
 
-  played_after : (s t : State) (xs ys : List (Entry A)) → played s xs ≡ Ok t → played s (xs ++ ys) ≡ played t ys
+  played_after : (s t : State) (xs ys : List (RecordAt A)) → played s xs ≡ Ok t → played s (xs ++ ys) ≡ played t ys
   unfolding played
   played_after s t [] ys is = let same : s ≡ t = cc in ap (λ (u : State). played u ys) same
   played_after s t (x ∷ xs) ys is = by (taken x.0 (run s x.1)) (λ u more. played_after u t xs ys more) is
@@ -71,35 +71,35 @@ module _ {A : Type 0} where
     after = short.after;
     state = short.state;
     all = is ∙ ap (with_prefix first) short.all ∙ prefix_twice first (short.done ++ short.next ∷ []) short.after
-        ∙ ap (λ (entries : List (Entry A)). with_prefix entries short.after) (sym (append_assoc first short.done (short.next ∷ [])));
+        ∙ ap (λ (entries : List (RecordAt A)). with_prefix entries short.after) (sym (append_assoc first short.done (short.next ∷ [])));
     accepted = played_after s t first short.done done ∙ short.accepted;
     stops = elim short.stops [ inl unread ↦ inl (so unread.0, unread.1, unread.2) | inr cut ↦ inr cut ];
   }
 
   -- what is after some good records is good
-  pub record Follows (prefix : List (Entry A)) (after : Half A) (held : Held A) : Type 0 where
-    pub found : Held A
+  pub record Follows (prefix : List (RecordAt A)) (after : Half A) (held : RecordsAndGate A) : Type 0 where
+    pub found : RecordsAndGate A
     pub is : after ≡ Ok found
     pub all : held.0 ≡ prefix ++ found.0
     pub gate : held.1 ≡ found.1
 
-  follows : (prefix : List (Entry A)) (after : Half A) (held : Held A) → with_prefix prefix after ≡ Ok held → Follows prefix after held
+  follows : (prefix : List (RecordAt A)) (after : Half A) (held : RecordsAndGate A) → with_prefix prefix after ≡ Ok held → Follows prefix after held
   follows prefix (Ok found) held good =
-      let same : ◌≡◌ {A = Held A} (prefix ++ found.0, found.1) held = cc in
-      record { found = found; is = refl; all = ap (λ (h : Held A). h.0) (sym same); gate = ap (λ (h : Held A). h.1) (sym same) }
+      let same : ◌≡◌ {A = RecordsAndGate A} (prefix ++ found.0, found.1) held = cc in
+      record { found = found; is = refl; all = ap (λ (h : RecordsAndGate A). h.0) (sym same); gate = ap (λ (h : RecordsAndGate A). h.1) (sym same) }
   follows prefix (Err at) held good = absurd cc
 
-  pub short_good : (s t : State) (half rest : Half A) {X : Type 0} → RunsShort s t half rest X → (held : Held A) → rest ≡ Ok held
-      → (found : Held A) × (half ≡ Ok found) × (found.1 ≡ held.1)
+  pub short_good : (s t : State) (half rest : Half A) {X : Type 0} → RunsShort s t half rest X → (held : RecordsAndGate A) → rest ≡ Ok held
+      → (found : RecordsAndGate A) × (half ≡ Ok found) × (found.1 ≡ held.1)
   short_good s t half rest short held good =
-      let last : (found : Held A) × (short.after ≡ Ok found) × (found.1 ≡ held.1) = elim short.stops [
+      let last : (found : RecordsAndGate A) × (short.after ≡ Ok found) × (found.1 ≡ held.1) = elim short.stops [
         | inl unread ↦ let f = follows (short.next ∷ []) short.after held (sym unread.1 ∙ good) in (f.found, f.is, sym f.gate)
         | inr cut ↦ (held, sym cut.0 ∙ good, refl)
       ] in
       ((short.done ++ short.next ∷ [] ++ last.0.0, last.0.1), short.all ∙ ap (with_prefix (short.done ++ short.next ∷ [])) last.1, last.2)
 
   -- where the records are good, they are cut short at that one
-  pub cut_short : (s t : State) (half rest : Half A) {X : Type 0} → RunsShort s t half rest X → (held : Held A) → half ≡ Ok held → IsCutShort s held.0 X
+  pub cut_short : (s t : State) (half rest : Half A) {X : Type 0} → RunsShort s t half rest X → (held : RecordsAndGate A) → half ≡ Ok held → IsCutShort s held.0 X
   cut_short s t half rest short held good =
       let last = follows (short.done ++ short.next ∷ []) short.after held (sym short.all ∙ good) in
       record {
@@ -115,7 +115,7 @@ module _ {A : Type 0} where
   -- ---- one record
 
   -- the rest of a half's records are played after the first
-  abbrev on_held : Held A → Result State StoreFault → Result (State × ℕ) StoreFault
+  abbrev on_held : RecordsAndGate A → Result State StoreFault → Result (State × ℕ) StoreFault
   on_held held r = (r >>= λ t. played t held.0) >>= λ t. Ok (t, held.1)
 
   module _ (form : Form) (before : ℕ) (image : List (List ℕ)) (at end : ℕ) (lt : at < end) where

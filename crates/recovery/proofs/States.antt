@@ -2,7 +2,7 @@
 use Rattle.std.proofs.Common.{◌≡◌, ℕ, Bool, true, false, List, [], ◌∷◌, Option, Some, None, Result, Ok, Err, IfErr, IfOk, refl, sym, subst, ap, ◌∙◌, if◌then◌else◌}
 use Rattle.std.specs.Prelude.{nat_eq, nat_lt}
 use Rattle.sector_disk.specs.Disk.{sector}
-use Rattle.gated_journal.specs.Half.{Entry, Half, half_of, is_open}
+use Rattle.gated_journal.specs.Half.{RecordAt, Half, half_of, is_open}
 use Rattle.centre_core.specs.State.{State}
 use Rattle.checkpoint.specs.declared.layout.Layout.{Layout}
 use Rattle.checkpoint.specs.declared.side.Side.{Side}
@@ -18,8 +18,8 @@ use Rattle.recovery.specs.declared.fault.StoreFault.TheVariants.{BadGeometry, Br
 use Rattle.recovery.specs.Checking.{Agrees, Taken, epoch_of, opened_by, sector_of, state_after, state_by, state_in, stated, taken_from, taken_of}
 use Rattle.recovery.specs.Figures.{figures_in}
 use Rattle.recovery.specs.Label.{layout_in}
-use Rattle.recovery.specs.Opening.{Fails, Gives}
-use Rattle.recovery.specs.Inside.Reads.{IsOfReading, IsOfSector}
+use Rattle.recovery.specs.Opening.{Fails, IsValueIn}
+use Rattle.recovery.specs.Inside.Reads.{IsOfRowsOrRecords, IsOfSector}
 use Rattle.recovery.specs.Opens.{Opening, base_in, chosen, headed, held_by, opening, opens, opens_by, placed, played, played_by, run, side_at, side_in, taken, ◌>>=◌}
 use Rattle.recovery.proofs.Chained.{then_ok}
 
@@ -55,7 +55,7 @@ module _ {A : Type 0} where
   damage_held (Ok held) = tt
   damage_held (Err at) = refl
 
-  damage_played : (s : State) (entries : List (Entry A)) → IsDamage (played s entries)
+  damage_played : (s : State) (entries : List (RecordAt A)) → IsDamage (played s entries)
   unfolding played
   damage_played s [] = tt
   damage_played s (entry ∷ entries) = damage_then (taken entry.0 (run s entry.1)) (λ t. played t entries) (damage_taken entry.0 (run s entry.1)) (λ t. damage_played t entries)
@@ -85,8 +85,8 @@ module _ (A : Type 0) (layout : Layout) (s : Side) (image : List (List ℕ)) whe
 
 module _ (image : List (List ℕ)) where
   -- a fault of reading what follows the header
-  pub after_fault : (epoch : ℕ) (fault : StoreFault) (opened : Result Opening StoreFault) → (n : ℕ) → IsOfReading n fault → IsDamage opened → Fails fault opened
-      → Gives (λ (s : SideState). s) (state_after (Some epoch) fault) (Ok (state_by epoch image opened))
+  pub after_fault : (epoch : ℕ) (fault : StoreFault) (opened : Result Opening StoreFault) → (n : ℕ) → IsOfRowsOrRecords n fault → IsDamage opened → Fails fault opened
+      → IsValueIn (λ (s : SideState). s) (state_after (Some epoch) fault) (Ok (state_by epoch image opened))
   after_fault epoch Unformatted opened n kind is failed = absurd kind
   after_fault epoch BadGeometry opened n kind is failed = absurd kind
   after_fault epoch (Damaged at) opened n kind is failed = rw failed refl
@@ -98,7 +98,7 @@ module _ (image : List (List ℕ)) where
 
   -- a fault of reading root and header
   pub after_head_fault : (fault : StoreFault) (head : Result (Option ℕ) StoreFault) (opened : Result Opening StoreFault) → (n : ℕ) → IsOfSector n fault → IsDamage head → Fails fault head
-      → Gives (λ (s : SideState). s) (state_after None fault) (Ok (stated image head opened))
+      → IsValueIn (λ (s : SideState). s) (state_after None fault) (Ok (stated image head opened))
   after_head_fault Unformatted head opened n kind is failed = absurd kind
   after_head_fault BadGeometry head opened n kind is failed = absurd kind
   after_head_fault (Damaged at) head opened n kind is failed = rw failed refl
@@ -109,7 +109,7 @@ module _ (image : List (List ℕ)) where
   after_head_fault Unready head opened n kind is failed = absurd kind
 
 module _ (A : Type 0) (layout : Layout) (s : Side) (image : List (List ℕ)) where
-  pub state_unread : (fault : StoreFault) (n : ℕ) → IsOfSector n fault → Fails fault (side_at layout s image) → Gives (λ (s : SideState). s) (state_after None fault) (Ok (state_in A layout s image))
+  pub state_unread : (fault : StoreFault) (n : ℕ) → IsOfSector n fault → Fails fault (side_at layout s image) → IsValueIn (λ (s : SideState). s) (state_after None fault) (Ok (state_in A layout s image))
   unfolding state_in
   state_unread fault n kind failed = after_head_fault image fault (side_at layout s image) (opens_by A layout s image) n kind (damage_at layout s image) failed
 

@@ -22,15 +22,15 @@ use Rattle.command_bytes.specs.Text.{command_text}
 use Rattle.gated_journal.specs.declared.form.Form.{Form}
 use Rattle.gated_journal.specs.declared.form.Form.TheVariants.{Numbered, Plain}
 use Rattle.gated_journal.specs.declared.place.Place.{Place}
-use Rattle.gated_journal.specs.Half.{Entry, counted, half_of}
-use Rattle.gated_journal.specs.Record.{data_size, given, head_len, most_sectors, record_text}
+use Rattle.gated_journal.specs.Half.{RecordAt, counted, half_of}
+use Rattle.gated_journal.specs.Record.{data_size, given, head_len, most_data_sectors, record_text}
 use Rattle.gated_journal.proofs.Given.{given_size}
 use Rattle.gated_journal.specs.Settled.{IsSettled, Leaves, room_of, text_at}
 use Rattle.gated_journal.proofs.Chain.{half_below}
 use Rattle.checkpoint.specs.declared.layout.Layout.{Layout}
 use Rattle.checkpoint.specs.declared.side.Side.{Side}
 use Rattle.checkpoint.specs.Layout.{half_at, half_end, other_of}
-use Rattle.checkpoint.specs.OnSide.{Base, Held, InEach, IsEither, IsOnSide, fresh}
+use Rattle.checkpoint.specs.OnSide.{Base, RecordsAndGate, InEach, IsEither, IsOnSide, fresh}
 use Rattle.checkpoint.proofs.Added.{on_side_with}
 use Rattle.checkpoint.proofs.Spared.{left_each}
 use Rattle.recovery.specs.Stored.{IsStored, fresh_place}
@@ -42,7 +42,7 @@ use Rattle.recovery.proofs.Opened.{side_opens}
 
 -- ---- what is is opened to
 
-pub state_opens : (A : Type 0) (layout : Layout) (side : Side) (form : Form) (base : Base) (held : Held A) (s : State) (image : List (List ℕ)) →
+pub state_opens : (A : Type 0) (layout : Layout) (side : Side) (form : Form) (base : Base) (held : RecordsAndGate A) (s : State) (image : List (List ℕ)) →
     IsOnSide layout side form base held image → IsHistory base.1 (commands_of held.0) → s ≡ after base.1 (commands_of held.0) → OpensTo A s image
 state_opens A layout side form base held s image holds history made = record {
   opening = opening layout side base.0 held.1 (after base.1 (commands_of held.0));
@@ -71,7 +71,7 @@ module _ (A : Type 0) (layout : Layout) (side : Side) (epoch : ℕ) (journal : P
   in_checkpoint new leaves = weaker disk new Either (OpensTo A s) leaves either_opens
 
 -- the image is written, and then the side switched to
-module _ {A : Type 0} (layout : Layout) (current : Side) (form also : Form) (base next : Base) (held more : Held A) (old mid : View)
+module _ {A : Type 0} (layout : Layout) (current : Side) (form also : Form) (base next : Base) (held more : RecordsAndGate A) (old mid : View)
     (written : LeavesOnly old mid (IsOnSide layout current form base held)) where
   pub not_switched : LeavesOnly old mid (IsEither layout current form also base next held more)
   not_switched = weaker old mid (IsOnSide layout current form base held) (IsEither layout current form also base next held more) written (λ image is. inl is)
@@ -100,7 +100,7 @@ module _ {B : Type 0} (A : Type 0) (s : State) (cs : List (Bor (Asked B))) where
 -- ---- an append
 
 -- the commands of some records, counted
-pub counted_all : {A : Type 0} (before : ℕ) (entries : List (Entry A)) → counted before entries ≡ before + length (commands_of entries)
+pub counted_all : {A : Type 0} (before : ℕ) (entries : List (RecordAt A)) → counted before entries ≡ before + length (commands_of entries)
 counted_all before [] = omega arith
 counted_all before (entry ∷ entries) = omega (arith, counted_all (before + length entry.1) entries, length-append entry.1 (commands_of entries))
 
@@ -124,14 +124,14 @@ module _ (A : Type 0) (layout : Layout) (side : Side) (epoch : ℕ) (place : Pla
   }
 
   module _ (more : List (Asked A)) (history : IsHistory s more) where
-    abbrev last : Entry A
+    abbrev last : RecordAt A
     last = (place.next + 1, more)
 
-    abbrev longer : List (Entry A)
+    abbrev longer : List (RecordAt A)
     longer = stored.entries ++ last ∷ []
 
     all : commands_of longer ≡ commands_of stored.entries ++ more
-    all = flat_map-append (λ (entry : Entry A). entry.1) stored.entries (last ∷ []) ∙ ap (λ (l : List (Asked A)). commands_of stored.entries ++ l) (append-nil more)
+    all = flat_map-append (λ (entry : RecordAt A). entry.1) stored.entries (last ∷ []) ∙ ap (λ (l : List (Asked A)). commands_of stored.entries ++ l) (append-nil more)
 
     all_accepted : IsHistory stored.base (commands_of longer)
     all_accepted =
@@ -143,7 +143,7 @@ module _ (A : Type 0) (layout : Layout) (side : Side) (epoch : ℕ) (place : Pla
     all_made = ap (λ (t : State). after t more) stored.made ∙ sym (after-append stored.base (commands_of stored.entries) more) ∙ ap (after stored.base) (sym all)
 
     -- an image in which nothing but the half has changed
-    image_opens : (entries : List (Entry A)) (gate : ℕ) (image : List (List ℕ)) → Leaves disk place stored.base.count stored.entries last image →
+    image_opens : (entries : List (RecordAt A)) (gate : ℕ) (image : List (List ℕ)) → Leaves disk place stored.base.count stored.entries last image →
         half_of place.form stored.base.count image place.first place.end ≡ Ok (entries, gate) →
         IsOnSide layout side place.form (epoch, stored.base) (entries, gate) image
     image_opens entries gate image leaves half =
@@ -212,11 +212,11 @@ some_sectors A place cs = omega (arith, given_size A place.form place.count cs, 
 
 -- the greatest one fits after a new image
 pub fits_fresh : {T E B : Type 0} (A : Type 0) (r : Result T E) (layout : Layout) (side : Side) (count : ℕ) (now : Place)
-    (cs : List (Bor (Asked B))) → ((form : Form) (before : ℕ) → data_size (record_text form before (given A cs)) ≤ most_sectors)
+    (cs : List (Bor (Asked B))) → ((form : Form) (before : ℕ) → data_size (record_text form before (given A cs)) ≤ most_data_sectors)
     → OnOk r (now ≡ fresh_place layout side count) → OnOk r (data_size (text_at A now cs) ≤ room_of now)
 fits_fresh A (Ok t) layout side count now cs most is =
     let fewest = layout.in_range.fewest in
-    let few : data_size (text_at A (fresh_place layout side count) cs) ≤ most_sectors = most Numbered count in
+    let few : data_size (text_at A (fresh_place layout side count) cs) ≤ most_data_sectors = most Numbered count in
     let fits : data_size (text_at A (fresh_place layout side count) cs) ≤ room_of (fresh_place layout side count) = omega (arith, few, fewest) in
     subst (λ (p : Place). data_size (text_at A p cs) ≤ room_of p) (sym is) fits
 fits_fresh A (Err e) layout side count now cs most is = tt

@@ -19,13 +19,13 @@ use Rattle.recovery.specs.declared.checking.SideState.TheVariants as state
 use Rattle.recovery.specs.declared.fault.StoreFault.{StoreFault}
 use Rattle.recovery.specs.declared.fault.StoreFault.TheVariants.{BadGeometry, Broken, Damaged, DiskFault, EpochsUsedUp, NoMemory, Unformatted, Unready}
 use Rattle.recovery.specs.declared.damaged.Damage.{Damage}
-use Rattle.recovery.specs.declared.damaged.Kind.{Kind}
-use Rattle.recovery.specs.declared.damaged.Kind.TheVariants as kind
+use Rattle.recovery.specs.declared.damaged.DamageKind.{DamageKind}
+use Rattle.recovery.specs.declared.damaged.DamageKind.TheVariants as kind
 use Rattle.recovery.specs.declared.damaged.Reason.{Reason}
 use Rattle.recovery.specs.declared.damaged.Reason.TheVariants as reason
 
 -- a damaged sector, put together from its parts
-abbrev pub damage : Sector → Kind → Reason → Damage
+abbrev pub damage : Sector → DamageKind → Reason → Damage
 damage at what why = record { sector = at; kind = what; reason = why }
 
 -- the header that a row is
@@ -40,7 +40,7 @@ header_of None = None
 -- ---- rows
 
 -- what the row at a place after the header is to hold: rules come first, then radios, items and stations
-abbrev pub kind_at : Header → ℕ → Kind
+abbrev pub kind_at : Header → ℕ → DamageKind
 kind_at h place =
     if nat_le place h.rules then kind.Rule
     else if nat_le place (h.rules + h.radios) then kind.Radio
@@ -66,7 +66,7 @@ fault_of_first None = reason.Unreadable
 fault_of_first (Some row) = reason.OutOfPlace
 
 -- the sector, if something is wrong with it
-abbrev pub named : Sector → Kind → Option Reason → List Damage
+abbrev pub named : Sector → DamageKind → Option Reason → List Damage
 named at what None = []
 named at what (Some why) = damage at what why ∷ []
 
@@ -88,7 +88,7 @@ bad_record (Err at) = Some at
 
 -- What the sector is to hold at which a record is at fault: in the half's last sector a gate that no record follows, and
 -- before it a record of as many commands as the sector states.
-abbrev pub record_kind : Layout → Side → List (List Byte) → Sector → Kind
+abbrev pub record_kind : Layout → Side → List (List Byte) → Sector → DamageKind
 record_kind layout side image at = if at == half_end layout side - 1 then kind.Gate else kind.Record (big_from 0 2 (sector image at))
 
 -- the record in this sector that can't be read, if there is one, as a damaged sector
@@ -141,7 +141,7 @@ module _ (A : Type 0) where
 
 -- the first of the damaged sectors is this one
 abbrev pub Begins : Sector → List Damage → Type 0
-Begins first damaged = (what : Kind) × (why : Reason) × (more : List Damage) × (damaged ≡ damage first what why ∷ more)
+Begins first damaged = (what : DamageKind) × (why : Reason) × (more : List Damage) × (damaged ≡ damage first what why ∷ more)
 
 -- if the first damaged sector of old is some sector, it is also the first one of new
 abbrev pub KeepsFirst : List Damage → List Damage → Type 0

@@ -13,7 +13,7 @@ use Rattle.checkpoint.specs.declared.side.Side.{Side}
 use Rattle.checkpoint.specs.declared.side.Side.TheVariants as side
 use Rattle.checkpoint.specs.Label.{IsLabel, name}
 use Rattle.checkpoint.specs.Layout.{disk_size, label_at, other_of, root_at, slot_at}
-use Rattle.checkpoint.specs.OnSide.{Base, Held, IsBelow, IsOnSide, slot_epoch}
+use Rattle.checkpoint.specs.OnSide.{Base, RecordsAndGate, IsBelow, IsOnSide, slot_epoch}
 use Rattle.recovery.specs.declared.fault.StoreFault.TheVariants.{BadGeometry, Damaged}
 use Rattle.recovery.specs.Checking.{Agrees, opened_by, state_in}
 use Rattle.recovery.specs.Label.{layout_in}
@@ -86,7 +86,7 @@ module _ (A : Type 0) where
   -- an image that is on a side opens from it to what the commands of its records make of its base, if they are accepted
   abbrev pub SideOpens : Type 0
   SideOpens =
-      (layout : Layout) (side : Side) (form : Form) (base : Base) (held : Held A) (image : List (List Byte))
+      (layout : Layout) (side : Side) (form : Form) (base : Base) (held : RecordsAndGate A) (image : List (List Byte))
       → IsOnSide layout side form base held image → IsHistory base.1 (commands_of held.0)
       → opens A image ≡ Ok (opening layout side base.0 held.1 (after base.1 (commands_of held.0)))
 

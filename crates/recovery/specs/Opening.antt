@@ -11,14 +11,14 @@ use Rattle.centre_core.specs.State.{State}
 use Rattle.gated_journal.specs.declared.place.Place.{Place}
 use Rattle.gated_journal.specs.declared.fault.JournalError.{JournalError}
 use Rattle.gated_journal.specs.declared.fault.JournalError.TheVariants as journal
-use Rattle.gated_journal.specs.Half.{Entry, Half, half_of, is_open}
+use Rattle.gated_journal.specs.Half.{RecordAt, Half, half_of, is_open}
 use Rattle.gated_journal.specs.Reading.{HasRecords}
 use Rattle.checkpoint.specs.declared.layout.Layout.{Layout}
 use Rattle.checkpoint.specs.declared.side.Side.{Side}
 use Rattle.checkpoint.specs.declared.side.Side.TheVariants as side
 use Rattle.checkpoint.specs.Layout.{half_at, half_end, label_at, root_at, slot_at}
 use Rattle.checkpoint.specs.Reading.{image_reads, read_calls}
-use Rattle.checkpoint.specs.OnSide.{Base, Held, slot_form, slot_in}
+use Rattle.checkpoint.specs.OnSide.{Base, RecordsAndGate, slot_form, slot_in}
 use Rattle.recovery.specs.declared.fault.StoreFault.{StoreFault}
 use Rattle.recovery.specs.declared.fault.StoreFault.TheVariants.{BadGeometry, Broken, Damaged, DiskFault, EpochsUsedUp, NoMemory, Unformatted, Unready}
 use Rattle.recovery.specs.Label.{layout_in}
@@ -47,9 +47,9 @@ Fails EpochsUsedUp is = is ≡ Err EpochsUsedUp
 Fails Unready is = is ≡ Err Unready
 
 -- What was read, as view models it, is what is there, unless the device fails or memory runs out.
-abbrev pub Gives : {X Y : Type 0} → (X → Y) → Result X StoreFault → Result Y StoreFault → Type 0
-Gives view (Ok x) is = is ≡ Ok (view x)
-Gives view (Err fault) is = Fails fault is
+abbrev pub IsValueIn : {X Y : Type 0} → (X → Y) → Result X StoreFault → Result Y StoreFault → Type 0
+IsValueIn view (Ok x) is = is ≡ Ok (view x)
+IsValueIn view (Err fault) is = Fails fault is
 
 -- The state that was reached, or why it was not.
 abbrev pub PlaysTo : Result Unit StoreFault → State → Result State StoreFault → Type 0
@@ -76,7 +76,7 @@ rest_in A place end disk = half_of {A = A} place.form place.count disk.reads pla
 
 module _ {A : Type 0} where
   -- What is there, where a fault was met and these records were then judged: their first fault, else the one that was met.
-  abbrev pub Stops : StoreFault → Result (Held A) StoreFault → Result Reached StoreFault → Type 0
+  abbrev pub Stops : StoreFault → Result (RecordsAndGate A) StoreFault → Result Reached StoreFault → Type 0
   Stops fault (Ok held) is = Fails fault is
   Stops fault (Err first) is = is ≡ Err first
 
@@ -109,10 +109,10 @@ module _ {A : Type 0} where
 
   -- Of these records the first ones are played, each of their commands accepted. Memory ran out for the next one: to read it,
   -- and then `Again` holds; or for one of its commands, after others that are accepted.
-  pub record IsCutShort (s : State) (entries : List (Entry A)) (Again : Type 0) : Type 0 where
-    pub done : List (Entry A)
-    pub next : Entry A
-    pub later : List (Entry A)
+  pub record IsCutShort (s : State) (entries : List (RecordAt A)) (Again : Type 0) : Type 0 where
+    pub done : List (RecordAt A)
+    pub next : RecordAt A
+    pub later : List (RecordAt A)
     pub state : State
     pub all : entries ≡ done ++ next ∷ later
     pub accepted : played s done ≡ Ok state

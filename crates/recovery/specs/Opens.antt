@@ -7,12 +7,12 @@ use Rattle.centre_core.specs.Asked.{Asked}
 use Rattle.centre_core.specs.State.{State}
 use Rattle.centre_core.specs.History.{accepts, next}
 use Rattle.image_rows.specs.Numbers.{Epoch}
-use Rattle.gated_journal.specs.Half.{Entry, Half, half_of, is_open}
+use Rattle.gated_journal.specs.Half.{RecordAt, Half, half_of, is_open}
 use Rattle.checkpoint.specs.declared.layout.Layout.{Layout}
 use Rattle.checkpoint.specs.declared.side.Side.{Side}
 use Rattle.checkpoint.specs.declared.side.Side.TheVariants as side
 use Rattle.checkpoint.specs.Layout.{half_at, half_end, root_at, slot_at}
-use Rattle.checkpoint.specs.OnSide.{Base, Held, slot_epoch, slot_form, slot_in}
+use Rattle.checkpoint.specs.OnSide.{Base, RecordsAndGate, slot_epoch, slot_form, slot_in}
 use Rattle.recovery.specs.declared.fault.StoreFault.{StoreFault}
 use Rattle.recovery.specs.declared.fault.StoreFault.TheVariants.{Damaged}
 use Rattle.recovery.specs.Label.{layout_in}
@@ -74,14 +74,14 @@ module _ {A : Type 0} where
   run s (c ∷ cs) = if accepts s c then run (next s c) cs else None
 
   -- the state after records
-  unfoldable pub played : State → List (Entry A) → Result State StoreFault
+  unfoldable pub played : State → List (RecordAt A) → Result State StoreFault
   played s [] = Ok s
   played s (entry ∷ entries) = do
     t ← taken entry.0 (run s entry.1)
     played t entries
 
   -- the records that a half holds, and its first closed gate; the first bad sector is at fault
-  abbrev pub held_by : Half A → Result (Held A) StoreFault
+  abbrev pub held_by : Half A → Result (RecordsAndGate A) StoreFault
   held_by (Ok held) = Ok held
   held_by (Err at) = Err (Damaged at)
 

@@ -9,13 +9,13 @@ use Rattle.centre_core.specs.StateRanges.{StateInRange}
 use Rattle.centre_core.specs.History.{after}
 use Rattle.centre_core.specs.Histories.{IsHistory}
 use Rattle.gated_journal.specs.declared.form.Form.{Form}
-use Rattle.gated_journal.specs.Half.{Entry}
+use Rattle.gated_journal.specs.Half.{RecordAt}
 use Rattle.checkpoint.specs.declared.layout.Layout.{Layout}
 use Rattle.checkpoint.specs.OnSide.{Base, IsOnSide}
 use Rattle.recovery.specs.Opens.{Opening, opens}
 
 -- the commands of some records, in order
-abbrev pub commands_of : {A : Type 0} → List (Entry A) → List (Asked A)
+abbrev pub commands_of : {A : Type 0} → List (RecordAt A) → List (Asked A)
 commands_of entries = flat_map (λ entry. entry.1) entries
 
 -- the image opens to this state
@@ -38,7 +38,7 @@ pub record IsRanged (limits : Limits) (s : State) : Type 0 where
 pub record OpensAs (A : Type 0) (opening : Opening) (image : List (List Byte)) : Type 0 where
   pub form : Form
   pub base : State
-  pub entries : List (Entry A)
+  pub entries : List (RecordAt A)
   pub on_side : IsOnSide opening.layout opening.side form (opening.epoch, base) (entries, opening.next) image
   pub accepted : IsHistory base (commands_of entries)
   pub made : opening.state ≡ after base (commands_of entries)

@@ -6,7 +6,7 @@ use Rattle.base.proofs.Bools.{both_true}
 use Rattle.registration.specs.Limits.{AreLimits, rule_capacity, radio_capacity, mail_capacity, station_capacity}
 use Rattle.registration.specs.declared.limits.Limits.{Limits}
 use Rattle.sector_disk.specs.Numbers.{Sectors}
-use Rattle.checkpoint.specs.Half.{IsHalfSize, fewest_sectors, most_sectors}
+use Rattle.checkpoint.specs.Half.{IsHalfSize, fewest_sectors, most_half_sectors}
 use Rattle.checkpoint.specs.declared.layout.Layout.{Layout}
 
 -- a number is neither below the low one nor above the high one
@@ -21,7 +21,7 @@ are_limits rules radios mail stations =
 
 -- the range of `IsHalfSize`, as a test
 abbrev pub is_half_size : Sectors → Bool
-is_half_size journal = is_within fewest_sectors most_sectors journal
+is_half_size journal = is_within fewest_sectors most_half_sectors journal
 
 -- ---- what passes the tests is in range
 
@@ -49,8 +49,8 @@ limits_pass rules radios mail stations e =
 
 pub half_size_passes : (journal : Sectors) → is_half_size journal ≡ true → IsHalfSize journal
 half_size_passes journal e =
-    let parts = both_true (nat_le fewest_sectors journal) (nat_le journal most_sectors) e in
-    record { fewest = leb-true fewest_sectors journal parts.0; most = leb-true journal most_sectors parts.1 }
+    let parts = both_true (nat_le fewest_sectors journal) (nat_le journal most_half_sectors) e in
+    record { fewest = leb-true fewest_sectors journal parts.0; most = leb-true journal most_half_sectors parts.1 }
 
 -- ---- the values
 

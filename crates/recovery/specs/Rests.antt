@@ -24,8 +24,8 @@ use Rattle.checkpoint.specs.Layout.{half_at, half_end, root_at, slot_at}
 use Rattle.checkpoint.specs.OnSide.{slot_form}
 use Rattle.recovery.specs.declared.rest.LeftOut.{LeftOut}
 use Rattle.recovery.specs.declared.rest.Rest.{Rest}
-use Rattle.recovery.specs.declared.damaged.Kind.{Kind}
-use Rattle.recovery.specs.declared.damaged.Kind.TheVariants as kind
+use Rattle.recovery.specs.declared.damaged.DamageKind.{DamageKind}
+use Rattle.recovery.specs.declared.damaged.DamageKind.TheVariants as kind
 use Rattle.recovery.specs.declared.damaged.Reason.{Reason}
 use Rattle.recovery.specs.declared.fault.StoreFault.TheVariants.{Damaged}
 use Rattle.recovery.specs.Damage.{fault_at, header_of, kind_at}
@@ -39,7 +39,7 @@ abbrev pub without_rows : Header → Header
 without_rows h = record h { rules = 0; radios = 0; mail = 0; served = 0 }
 
 -- a header with one more row of this kind
-abbrev pub with_row : Header → Kind → Header
+abbrev pub with_row : Header → DamageKind → Header
 with_row h kind.Rule = record h { rules = h.rules + 1 }
 with_row h kind.Radio = record h { radios = h.radios + 1 }
 with_row h kind.Item = record h { mail = h.mail + 1 }
@@ -49,7 +49,7 @@ with_row h (kind.Record commands) = h
 with_row h kind.Gate = h
 
 -- The rows that were kept so far: what they make, and a header that states as many of each kind.
-pub record Kept : Type 0 where
+pub record KeptRows : Type 0 where
   pub loading : Loading
   pub rows : Header
 
@@ -59,21 +59,21 @@ unless_wrong None x = x
 unless_wrong (Some why) x = None
 
 -- one row more of this kind is kept, if the loading goes on with it; else it is left out
-abbrev pub kept_by : Kept → Kind → Option Loading → Kept
+abbrev pub kept_by : KeptRows → DamageKind → Option Loading → KeptRows
 kept_by kept what None = kept
 kept_by kept what (Some more) = record { loading = more; rows = with_row kept.rows what }
 
 -- A row is kept if its sector holds a row of the kind that is due there, and if that may come after the rows kept before it.
-abbrev pub kept_with : Header → ℕ → List Byte → Kept → Kept
+abbrev pub kept_with : Header → ℕ → List Byte → KeptRows → KeptRows
 kept_with h place bytes kept = kept_by kept (kind_at h place) (unless_wrong (fault_at h place (row_in bytes)) (taken_from kept.loading bytes))
 
 -- the rows that are kept of so many after the header in a slot
-unfoldable pub rows_kept : List (List Byte) → Sector → Header → Kept → Sectors → Kept
+unfoldable pub rows_kept : List (List Byte) → Sector → Header → KeptRows → Sectors → KeptRows
 rows_kept image slot h kept zero = kept
 rows_kept image slot h kept (suc n) = kept_with h (n + 1) (sector image (slot + (n + 1))) (rows_kept image slot h kept n)
 
 -- no row has come after this header
-abbrev pub none_kept : Limits → Header → Header → Kept
+abbrev pub none_kept : Limits → Header → Header → KeptRows
 none_kept limits h stated = record { loading = unwrap_or (row_taken (begun limits) (HeaderRow h)) (begun limits); rows = without_rows stated }
 
 -- how many rows a header states
@@ -96,7 +96,7 @@ made_or h None other = other
 
 module _ (limits : Limits) (image : List (List Byte)) (slot : Sector) (stated : Header) where
   -- the rows of a slot that are kept, if its header is this one
-  abbrev pub kept_under : Header → Kept
+  abbrev pub kept_under : Header → KeptRows
   kept_under h = rows_kept image slot stated (none_kept limits h stated) (rows_stated stated)
 
   -- The register of the rows that are kept under this header, and the header. If they make none, the rows are kept under the

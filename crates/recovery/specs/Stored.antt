@@ -7,7 +7,7 @@ use Rattle.centre_core.specs.Histories.{IsHistory}
 use Rattle.image_rows.specs.Numbers.{Epoch}
 use Rattle.gated_journal.specs.declared.form.Form.TheVariants.{Numbered}
 use Rattle.gated_journal.specs.declared.place.Place.{Place}
-use Rattle.gated_journal.specs.Half.{Entry}
+use Rattle.gated_journal.specs.Half.{RecordAt}
 use Rattle.checkpoint.specs.declared.layout.Layout.{Layout}
 use Rattle.checkpoint.specs.declared.side.Side.{Side}
 use Rattle.checkpoint.specs.Layout.{half_at, half_end}
@@ -24,7 +24,7 @@ fresh_place layout side count = record { first = half_at layout side; end = half
 -- counts.
 pub record IsStored (A : Type 0) (layout : Layout) (side : Side) (epoch : Epoch) (journal : Place) (state : State) (disk : View) : Type 0 where
   pub base : State
-  pub entries : List (Entry A)
+  pub entries : List (RecordAt A)
   pub each : InEach disk (IsOnSide layout side journal.form (epoch, base) (entries, journal.next))
   pub accepted : IsHistory base (commands_of entries)
   pub made : state ≡ after base (commands_of entries)

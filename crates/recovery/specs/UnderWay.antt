@@ -9,20 +9,20 @@ use Rattle.image_rows.specs.Numbers.{Epoch}
 use Rattle.image_rows.specs.Rows.{last_epoch, rows_of}
 use Rattle.gated_journal.specs.declared.form.Form.TheVariants.{Numbered}
 use Rattle.gated_journal.specs.declared.place.Place.{Place}
-use Rattle.gated_journal.specs.Half.{Entry, IsClosed}
+use Rattle.gated_journal.specs.Half.{RecordAt, IsClosed}
 use Rattle.checkpoint.specs.declared.layout.Layout.{Layout}
 use Rattle.checkpoint.specs.declared.side.Side.{Side}
 use Rattle.checkpoint.specs.Calls.{row_sector}
 use Rattle.checkpoint.specs.Layout.{half_at, half_end, other_of, root_at, slot_at}
 use Rattle.checkpoint.specs.Progress.{IsProgress, written_after}
-use Rattle.checkpoint.specs.OnSide.{Base, Held, InEach, IsInHalf}
+use Rattle.checkpoint.specs.OnSide.{Base, RecordsAndGate, InEach, IsInHalf}
 use Rattle.recovery.specs.declared.ongoing.Ongoing.{Ongoing}
 use Rattle.recovery.specs.OpensTo.{OpensTo, commands_of}
 use Rattle.recovery.specs.Stored.{IsStored}
 
 -- So many rows of a register's image are on this side. In each image that a stop may leave its root is closed, and its half holds
 -- these records. The rows read as they were written.
-pub record IsBegun {A : Type 0} (layout : Layout) (side : Side) (base : Base) (written : ℕ) (held : Held A) (disk : View) : Type 0 where
+pub record IsBegun {A : Type 0} (layout : Layout) (side : Side) (base : Base) (written : ℕ) (held : RecordsAndGate A) (disk : View) : Type 0 where
   pub root : InEach disk (λ image. IsClosed (sector image (root_at side)))
   pub half : InEach disk (IsInHalf layout side Numbered base held)
   pub gate : held.1 < half_end layout side
@@ -33,7 +33,7 @@ module _ (A : Type 0) where
   -- The side that does not count has the rows written so far, with the next epoch, of the register as it was at the start. Its
   -- records have every command accepted since.
   pub record IsOngoing (layout : Layout) (side : Side) (epoch : Epoch) (ongoing : Ongoing A) (state : State) (disk : View) : Type 0 where
-    pub entries : List (Entry A)
+    pub entries : List (RecordAt A)
     pub begun : IsBegun layout (other_of side) (epoch + 1, ongoing.register) ongoing.progress.written (entries, ongoing.journal.next) disk
     pub accepted : IsHistory ongoing.register (commands_of entries)
     pub made : state ≡ after ongoing.register (commands_of entries)

@@ -9,7 +9,7 @@ ghost use Rattle.recovery.specs.declared.fault.StoreFault.TheVariants.{Damaged, 
 ghost use Rattle.recovery.specs.Checking.{HasNoDamageYet, HasSynced, HasSyncedUnless, IsCheckOf, IsDamagedAt, IsGoodAtB, IsGoodSideSoFar, IsNoDamage};
 ghost use Rattle.recovery.specs.Checking.{damaged_sector, epoch_of, first_damaged, is_damaged, opened_by, state_after, state_in, taken_from};
 ghost use Rattle.recovery.specs.Lives.{Answered, Closed, IsCall};
-ghost use Rattle.recovery.specs.Opening.{Gives, IsOfOpening};
+ghost use Rattle.recovery.specs.Opening.{IsValueIn, IsOfOpening};
 ghost use Rattle.recovery.specs.Inside.Current.{InForm, IsGoodSide, state_from};
 ghost use Rattle.recovery.specs.Inside.Reads.{ReadsOrFails};
 
@@ -67,7 +67,7 @@ impl SideState {
     }
 
     // What opening makes of this side, whose root is at `root`.
-    fn taken(&self, root: u64) -> Result<Figures, u64>
+    fn figures_or_fault(&self, root: u64) -> Result<Figures, u64>
         ensures { result ≡ taken_from root self.now }
     {
         match self {
@@ -98,12 +98,12 @@ impl Checked {
         let root_b = self.layout.root(Side::B);
         match (self.a.epoch()?, self.b.epoch()?) {
             (None, None) => Err(root_a),
-            (Some(_), None) => self.a.taken(root_a),
-            (None, Some(_)) => self.b.taken(root_b),
+            (Some(_), None) => self.a.figures_or_fault(root_a),
+            (None, Some(_)) => self.b.figures_or_fault(root_b),
             (Some(first), Some(second)) => match greater(first, second) {
                 None => Err(root_b),
-                Some(Side::A) => self.a.taken(root_a),
-                Some(Side::B) => self.b.taken(root_b),
+                Some(Side::A) => self.a.figures_or_fault(root_a),
+                Some(Side::B) => self.b.figures_or_fault(root_b),
             },
         }
     }
@@ -146,7 +146,7 @@ fn check_contents<A: Allocator + Copy, D: Disk>(
 ) -> Result<SideState, StoreFault>
     requires room { disk_size layout.now ≤ (D.view disk.old).sectors }
     ensures exact { (D.view disk.old).honest → InForm layout.now current (D.view disk.old)
-        (Gives (λ state. state) result (Ok (state_from A layout.now current epoch (D.view disk.old)))) }
+        (IsValueIn (λ state. state) result (Ok (state_from A layout.now current epoch (D.view disk.old)))) }
     ensures memory { IsErrOf result NoMemory → (D.view disk.old).honest → InForm layout.now current (D.view disk.old)
         (IsGoodSide A layout.now current (D.view disk.old) (D.view disk.new)) }
     ensures on_disk { (at : ℕ) → IfOk result (λ state. IsDamagedAt at state → at < (D.view disk.old).sectors) }
@@ -172,7 +172,7 @@ fn check_side<A: Allocator + Copy, D: Disk>(
     side: Side,
 ) -> Result<SideState, StoreFault>
     requires room { disk_size layout.now ≤ (D.view disk.old).sectors }
-    ensures exact { (D.view disk.old).honest → Gives (λ state. state) result (Ok (state_in A layout.now side (D.view disk.old).reads)) }
+    ensures exact { (D.view disk.old).honest → IsValueIn (λ state. state) result (Ok (state_in A layout.now side (D.view disk.old).reads)) }
     ensures memory { IsErrOf result NoMemory → (D.view disk.old).honest
         → IsGoodSideSoFar A layout.now side (D.view disk.old).reads (D.view disk.old).calls (D.view disk.new).calls }
     ensures on_disk { (at : ℕ) → IfOk result (λ state. IsDamagedAt at state → at < (D.view disk.old).sectors) }

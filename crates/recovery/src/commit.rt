@@ -62,7 +62,7 @@ impl<A: Allocator + Copy, D: Disk> Store<A, D> {
             &mut accepted,
         );
         self.broken = true;
-        self.keep(&accepted)?;
+        self.persist(&accepted)?;
         self.broken = false;
         Ok(outcomes)
     }

@@ -19,7 +19,7 @@ use std::alloc::Allocator;
 
 /// What a sector is to hold.
 #[derive(Clone, Copy, Debug, PartialEq, Eq, Drop)]
-pub enum Kind {
+pub enum DamageKind {
     /// The header of an image.
     Header,
     /// A row of a rule.
@@ -55,7 +55,7 @@ pub struct Damage {
     /// The sector.
     pub sector: u64,
     /// What it is to hold.
-    pub kind: Kind,
+    pub kind: DamageKind,
     /// What is wrong with it.
     pub reason: Reason,
 }
@@ -65,7 +65,7 @@ pub struct Damage {
 fn add_named<A: Allocator>(
     found: &mut Vec<Damage, A>,
     sector: u64,
-    kind: Kind,
+    kind: DamageKind,
     reason: Option<Reason>,
 ) -> Result<(), StoreFault>
     ensures added { OnOk result (found.new.items ≡ found.old.items ++ named sector kind reason) }
@@ -133,10 +133,10 @@ fn add_rows<A: Allocator, D: Disk>(
 }
 
 // A damaged sector alone.
-fn alone<A: Allocator>(
+fn one_damage<A: Allocator>(
     alloc: A,
     sector: u64,
-    kind: Kind,
+    kind: DamageKind,
     reason: Reason,
 ) -> Result<Vec<Damage, A>, StoreFault>
     ensures exact { IfOk result (λ found. found.items ≡ damage sector kind reason ∷ []) }
@@ -195,7 +195,7 @@ fn after_row<A: Allocator, D: Disk>(
     let slot = layout.slot(side);
     let place = stop.first.saturating_sub(slot);
     let kind = kind_at(&stop.header, place);
-    let mut found = alone(alloc, stop.first, kind, fault_of_first(&bytes))?;
+    let mut found = one_damage(alloc, stop.first, kind, fault_of_first(&bytes))?;
     add_rows(disk, slot, &stop.header, place + 1, &mut found)?;
     add_record(disk, layout, side, stop.bad, &mut found)?;
     Ok(found)
@@ -218,7 +218,7 @@ fn after_header<A: Allocator, D: Disk>(
         return after_row(alloc, disk, layout, side, stop);
     }
     let kind = read_record_kind(disk, layout, side, stop.first)?;
-    alone(alloc, stop.first, kind, record_fault(stop.bad))
+    one_damage(alloc, stop.first, kind, record_fault(stop.bad))
 }
 
 // The damaged sectors of a side at whose sector `first` opening stops.
@@ -237,11 +237,11 @@ fn damage_from<A: Allocator + Copy, D: Disk>(
     ensures reads { ReadsOrFails IsOfDamage (D.view disk.old) (D.view disk.new) result }
 {
     let Some(stated) = read_header(disk, layout, side)? else {
-        return alone(alloc, first, Kind::Header, Reason::Unreadable);
+        return one_damage(alloc, first, DamageKind::Header, Reason::Unreadable);
     };
     let header = stated.header;
     if !header_may(&layout.limits(), &header) {
-        return alone(alloc, first, Kind::Header, Reason::BeyondLimits);
+        return one_damage(alloc, first, DamageKind::Header, Reason::BeyondLimits);
     }
     let bad = bad_record(alloc, disk, layout, side, stated)?;
     let stop = Stop { header, first, bad };

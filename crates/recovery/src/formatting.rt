@@ -18,7 +18,7 @@ ghost use Rattle.recovery.specs.Lives.{Closed, IsLife};
 
 use crate::StoreFault;
 use checkpoint::{Layout, Side};
-use command_bytes::Room;
+use command_bytes::ByteSink;
 use command_bytes::put::put_number;
 use image_rows::{Header, SectorText, header_row};
 use sector_disk::{Disk, DiskError};

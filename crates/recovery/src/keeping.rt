@@ -118,7 +118,10 @@ impl<A: Allocator + Copy, D: Disk> Store<A, D> {
 
     // Adds a record of these commands and continues the checkpoint. Without commands nothing is done. The register has
     // applied and counted them already.
-    pub(crate) fn keep<B: Allocator>(&mut self, accepted: &[&Command<B>]) -> Result<(), StoreFault>
+    pub(crate) fn persist<B: Allocator>(
+        &mut self,
+        accepted: &[&Command<B>],
+    ) -> Result<(), StoreFault>
         requires { MayAdd self.old accepted.now }
         ensures on_disk { KeepsApplied D.view self.old self.new accepted.now result }
         ensures none { accepted.now ≡ [] → self.new ≡ self.old }

@@ -5,7 +5,7 @@ ghost use Rattle.sector_disk.specs.declared.record.Call.TheVariants.{Read};
 ghost use Rattle.checkpoint.specs.Layout.{disk_size, label_at};
 ghost use Rattle.recovery.specs.declared.fault.StoreFault.TheVariants.{BadGeometry, Unformatted};
 ghost use Rattle.recovery.specs.Label.{fitting, layout_at, layout_after, layout_in, layout_of_numbers, numbers_at};
-ghost use Rattle.recovery.specs.Opening.{Gives};
+ghost use Rattle.recovery.specs.Opening.{IsValueIn};
 ghost use Rattle.recovery.specs.Inside.Reads.{IsOfLabel, ReadsOrFails};
 
 use crate::StoreFault;
@@ -99,7 +99,7 @@ fn layout_at(sectors: u64, bytes: &[u8]) -> Result<Layout, StoreFault>
 // The layout that the disk states.
 #[tactic(auto, unfolding(crate::specs::Label::layout_in), using(sector_disk::proofs::Reading::one_read))]
 pub(crate) fn read_layout<D: Disk>(disk: &mut D) -> Result<Layout, StoreFault>
-    ensures exact { (D.view disk.old).honest → Gives (λ layout. layout) result (layout_in (D.view disk.old).reads) }
+    ensures exact { (D.view disk.old).honest → IsValueIn (λ layout. layout) result (layout_in (D.view disk.old).reads) }
     ensures room { IfOk result (λ layout. disk_size layout ≤ (D.view disk.old).sectors) }
     ensures calls { IfOk result (λ layout. HasCalled (D.view disk.old) (D.view disk.new) (Read label_at ∷ [])) }
     ensures reads { ReadsOrFails IsOfLabel (D.view disk.old) (D.view disk.new) result }

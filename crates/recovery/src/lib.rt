@@ -31,7 +31,7 @@ mod stated;
 mod store;
 
 pub use checking::{Checked, SideState, check};
-pub use damaged::{Damage, Kind, Reason, damage_of};
+pub use damaged::{Damage, DamageKind, Reason, damage_of};
 pub use fault::StoreFault;
 pub use figures::Figures;
 pub use formatting::format;

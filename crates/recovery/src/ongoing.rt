@@ -17,7 +17,7 @@ use crate::{Store, StoreFault};
 use base::TryCopy;
 use centre_core::Register;
 use centre_core::laws::registers;
-use checkpoint::{CheckpointError, Layout, Progress, Side, begin, switch, write_next_rows};
+use checkpoint::{CheckpointError, ImageProgress, Layout, Side, begin, switch, write_next_rows};
 use gated_journal::{Form, Journal};
 use image_rows::LAST_EPOCH;
 use sector_disk::Disk;
@@ -28,7 +28,7 @@ use std::alloc::Allocator;
 #[derive(Drop)]
 pub(crate) struct Ongoing<A: Allocator> {
     pub(crate) register: Register<A>,
-    pub(crate) progress: Progress,
+    pub(crate) progress: ImageProgress,
     pub(crate) journal: Journal<A>,
 }
 
@@ -92,7 +92,7 @@ impl<A: Allocator + Copy, D: Disk> Store<A, D> {
             drop(register);
             return Err(StoreFault::DiskFault);
         }
-        let progress = Progress::begun(self.epoch + 1, &register);
+        let progress = ImageProgress::begun(self.epoch + 1, &register);
         drop(
             self.ongoing.replace(Ongoing {
                 register,

@@ -5,10 +5,10 @@ ghost use Rattle.checkpoint.specs.Layout.{disk_size, half_at, half_end};
 ghost use Rattle.checkpoint.specs.OnSide.{ReadsForm};
 ghost use Rattle.recovery.specs.declared.fault.StoreFault.TheVariants.{Damaged, DiskFault, NoMemory};
 ghost use Rattle.recovery.specs.Opens.{opens, opens_by};
-ghost use Rattle.recovery.specs.Opening.{EndsAt, Gives, HasNoFaultYet, IsOfOpening};
+ghost use Rattle.recovery.specs.Opening.{EndsAt, IsValueIn, HasNoFaultYet, IsOfOpening};
 ghost use Rattle.recovery.specs.Inside.Current.{InForm, IsGoodSide, IsUnreadOrGood, half_played};
 ghost use Rattle.recovery.specs.Inside.Opened.{IsWhole, opened_view};
-ghost use Rattle.recovery.specs.Inside.Reads.{IsOfReading, ReadsOrFails};
+ghost use Rattle.recovery.specs.Inside.Reads.{IsOfRowsOrRecords, ReadsOrFails};
 
 use crate::StoreFault;
 use crate::label::read_layout;
@@ -52,7 +52,7 @@ fn read_half<A: Allocator + Copy, D: Disk>(
     ensures next { IfOk result (λ journal. journal.next < half_end layout.now current.side) }
     ensures form { IfOk result (λ journal. journal.form ≡ current.form) }
     ensures counts { IfOk result (λ journal. journal.count ≡ register.new.count) }
-    ensures reads { ReadsOrFails (IsOfReading (D.view disk.old).sectors) (D.view disk.old) (D.view disk.new) result }
+    ensures reads { ReadsOrFails (IsOfRowsOrRecords (D.view disk.old).sectors) (D.view disk.old) (D.view disk.new) result }
 {
     registers(register);
     let mut journal = Journal::start(
@@ -76,14 +76,14 @@ pub(crate) fn read_current<A: Allocator + Copy, D: Disk>(
 ) -> Result<Opened<A>, StoreFault>
     requires room { disk_size layout ≤ (D.view disk.old).sectors }
     ensures exact { (D.view disk.old).honest → InForm layout current (D.view disk.old)
-        (Gives opened_view result (opens_by A layout current.side (D.view disk.old).reads)) }
+        (IsValueIn opened_view result (opens_by A layout current.side (D.view disk.old).reads)) }
     ensures memory { IsErrOf result NoMemory → (D.view disk.old).honest → InForm layout current (D.view disk.old)
         (IsGoodSide A layout current (D.view disk.old) (D.view disk.new)) }
     ensures whole { IfOk result IsWhole }
     ensures layout { IfOk result (λ opened. opened.layout ≡ layout) }
     ensures side { IfOk result (λ opened. opened.side ≡ current.side) }
     ensures form { IfOk result (λ opened. opened.journal.form ≡ current.form) }
-    ensures reads { ReadsOrFails (IsOfReading (D.view disk.old).sectors) (D.view disk.old) (D.view disk.new) result }
+    ensures reads { ReadsOrFails (IsOfRowsOrRecords (D.view disk.old).sectors) (D.view disk.old) (D.view disk.new) result }
 {
     let (epoch, mut register) = read_base(alloc, disk, &layout, current.side)?;
     match read_half(alloc, disk, &layout, current, &mut register) {
@@ -107,7 +107,7 @@ pub(crate) fn read_all<A: Allocator + Copy, D: Disk>(
     alloc: A,
     disk: &mut D,
 ) -> Result<Opened<A>, StoreFault>
-    ensures exact { (D.view disk.old).honest → Gives opened_view result (opens A (D.view disk.old).reads) }
+    ensures exact { (D.view disk.old).honest → IsValueIn opened_view result (opens A (D.view disk.old).reads) }
     ensures memory { IsErrOf result NoMemory → (D.view disk.old).honest
         → HasNoFaultYet A (D.view disk.old).reads (D.view disk.old).calls (D.view disk.new).calls }
     ensures whole { IfOk result IsWhole }

@@ -8,9 +8,9 @@ ghost use Rattle.checkpoint.specs.Reading.{IsGoodSoFar, image_reads};
 ghost use Rattle.sector_disk.specs.Effects.{OnlyReads};
 ghost use Rattle.recovery.specs.declared.fault.StoreFault.TheVariants.{DiskFault, NoMemory};
 ghost use Rattle.recovery.specs.Opens.{base_in, run, taken};
-ghost use Rattle.recovery.specs.Opening.{Gives, HasReadAgain, NeedsMemory, PlaysTo};
+ghost use Rattle.recovery.specs.Opening.{IsValueIn, HasReadAgain, NeedsMemory, PlaysTo};
 ghost use Rattle.recovery.specs.Inside.Played.{HasMovedOn, HasRunShort, IsReadable, PlaysAll, PlaysHalf, PlaysOne, PlaysWithin, ReportsFirst};
-ghost use Rattle.recovery.specs.Inside.Reads.{IsOfReading, IsOfRecord, IsOfSector, ReadsOrFails};
+ghost use Rattle.recovery.specs.Inside.Reads.{IsOfRowsOrRecords, IsOfRecord, IsOfSector, ReadsOrFails};
 
 use crate::StoreFault;
 use centre_core::{Command, Register};
@@ -28,12 +28,12 @@ pub(crate) fn read_base<A: Allocator + Copy, D: Disk>(
     side: Side,
 ) -> Result<(u64, Register<A>), StoreFault>
     requires room { disk_size layout.now ≤ (D.view disk.old).sectors }
-    ensures exact { (D.view disk.old).honest → Gives (λ base. base) result (base_in layout.now side (D.view disk.old).reads) }
+    ensures exact { (D.view disk.old).honest → IsValueIn (λ base. base) result (base_in layout.now side (D.view disk.old).reads) }
     ensures limits { IfOk result (λ base. base.1.registered.limits ≡ layout.now.limits) }
     ensures memory { IsErrOf result NoMemory → (D.view disk.old).honest → IsGoodSoFar layout.now side (D.view disk.old) (D.view disk.new) }
     ensures calls { IfOk result (λ base. (D.view disk.old).honest
         → HasCalled (D.view disk.old) (D.view disk.new) (image_reads (slot_at layout.now side) base)) }
-    ensures reads { ReadsOrFails (IsOfReading (D.view disk.old).sectors) (D.view disk.old) (D.view disk.new) result }
+    ensures reads { ReadsOrFails (IsOfRowsOrRecords (D.view disk.old).sectors) (D.view disk.old) (D.view disk.new) result }
 {
     match read_image(disk, layout, side, alloc) {
         Ok(image) => Ok(image),
@@ -82,7 +82,7 @@ fn play_next<A: Allocator + Copy, D: Disk>(
     ensures counts { OnOk result (journal.old.count ≡ register.old.count → journal.new.count ≡ register.new.count) }
     ensures on { IfOk result (λ more. more ≡ true → journal.old.next < journal.new.next) }
     ensures calls { IfOk result (λ more. more ≡ true → HasCalledTimes (D.view disk.old) (D.view disk.new) (journal.new.next - journal.old.next)) }
-    ensures reads { ReadsOrFails (IsOfReading journal.old.end) (D.view disk.old) (D.view disk.new) result }
+    ensures reads { ReadsOrFails (IsOfRowsOrRecords journal.old.end) (D.view disk.old) (D.view disk.new) result }
 {
     let Some((at, commands)) = journal.read_next(alloc, disk)? else {
         return Ok(false);
@@ -105,7 +105,7 @@ fn play_on<A: Allocator + Copy, D: Disk>(
         (HasReadAgain (D.view disk.old).calls (D.view disk.new).calls journal.old.next journal.new.next) }
     ensures moves { PlaysWithin journal.old journal.new register.old register.new }
     ensures counts { OnOk result (journal.old.count ≡ register.old.count → journal.new.count ≡ register.new.count) }
-    ensures reads { ReadsOrFails (IsOfReading journal.old.end) (D.view disk.old) (D.view disk.new) result }
+    ensures reads { ReadsOrFails (IsOfRowsOrRecords journal.old.end) (D.view disk.old) (D.view disk.new) result }
 {
     while play_next(alloc, disk, journal, register)? {}
     Ok(())
@@ -150,7 +150,7 @@ pub(crate) fn play<A: Allocator + Copy, D: Disk>(
         (HasReadAgain (D.view disk.old).calls (D.view disk.new).calls journal.old.next (records.0.1 + 1)) }
     ensures moves { PlaysWithin journal.old journal.new register.old register.new }
     ensures counts { OnOk result (journal.old.count ≡ register.old.count → journal.new.count ≡ register.new.count) }
-    ensures reads { ReadsOrFails (IsOfReading journal.old.end) (D.view disk.old) (D.view disk.new) result }
+    ensures reads { ReadsOrFails (IsOfRowsOrRecords journal.old.end) (D.view disk.old) (D.view disk.new) result }
 {
     match play_on(alloc, disk, journal, register) {
         Ok(()) => Ok(()),

@@ -298,7 +298,7 @@ fn read_greater_rest<A: Allocator + Copy, D: Disk>(
 }
 
 // All of a disk that opens.
-fn whole<A: Allocator>(opened: Opened<A>) -> Rest<A>
+fn rest_of_opened<A: Allocator>(opened: Opened<A>) -> Rest<A>
     ensures register { result.register ≡ opened.register }
     ensures side { result.side ≡ opened.side }
     ensures epoch { result.epoch ≡ opened.epoch }
@@ -353,7 +353,7 @@ pub fn read_rest<A: Allocator + Copy, D: Disk>(
     ensures reads { OnlyReads (D.view disk.old) (D.view disk.new) (IsErrOf result DiskFault) }
 {
     match read_all(alloc, disk) {
-        Ok(opened) => Ok(Some(whole(opened))),
+        Ok(opened) => Ok(Some(rest_of_opened(opened))),
         Err(StoreFault::Damaged(_)) => read_greater_rest(alloc, disk),
         Err(fault) => Err(fault),
     }

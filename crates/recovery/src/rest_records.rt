@@ -1,7 +1,7 @@
 //! The records of a side that can still be read, applied in order up to the first that is damaged.
 ghost use Rattle.std.specs.Prelude.{◌≡◌, ◌<◌, IfErr, IfOk, IfSome, None, true};
 ghost use Rattle.gated_journal.specs.Half.{stated_size};
-ghost use Rattle.gated_journal.specs.Settled.{IsCounted};
+ghost use Rattle.gated_journal.specs.Settled.{HasNumbersLeft};
 ghost use Rattle.recovery.specs.declared.fault.StoreFault.TheVariants.{NoMemory};
 ghost use Rattle.recovery.specs.Damage.{IsOfDamage};
 ghost use Rattle.recovery.specs.Rests.{run_while};
@@ -114,7 +114,7 @@ fn pass_over<A: Allocator, D: Disk>(
     ensures form { journal.new.form ≡ journal.old.form }
     ensures end { journal.new.end ≡ journal.old.end }
     ensures next { journal.new.next < journal.old.end }
-    ensures room { IsCounted journal.new }
+    ensures room { HasNumbersLeft journal.new }
     ensures reads { ReadsOrFails IsOfDamage (D.view disk.old) (D.view disk.new) result }
 {
     let place = journal.place();

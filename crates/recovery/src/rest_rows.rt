@@ -10,7 +10,7 @@ ghost use Rattle.recovery.specs.Inside.Reads.{ReadsOrFails};
 ghost use Rattle.recovery.specs.Inside.Rests.{HasAtMost, kept_after, kept_at, kept_by_header, kept_of, left_of, taken_at};
 
 use crate::row_faults::{fault_at, kind_at};
-use crate::{Kind, StoreFault};
+use crate::{DamageKind, StoreFault};
 use centre_core::Register;
 use image_rows::row_laws::row_read_back;
 use image_rows::{Header, Loader, header_row};
@@ -27,24 +27,24 @@ pub(crate) struct Slot {
 }
 
 // The header with one more row of this kind.
-fn with_row(kept: &Header, kind: Kind) -> Header
+fn with_row(kept: &Header, kind: DamageKind) -> Header
     requires few { HasAtMost 135232 kept.now }
     ensures { result ≡ with_row kept.now kind }
 {
     match kind {
-        Kind::Rule => Header {
+        DamageKind::Rule => Header {
             rules: kept.rules + 1,
             ..*kept
         },
-        Kind::Radio => Header {
+        DamageKind::Radio => Header {
             radios: kept.radios + 1,
             ..*kept
         },
-        Kind::Item => Header {
+        DamageKind::Item => Header {
             mail: kept.mail + 1,
             ..*kept
         },
-        Kind::Station => Header {
+        DamageKind::Station => Header {
             served: kept.served + 1,
             ..*kept
         },

@@ -4,7 +4,7 @@ ghost use Rattle.image_rows.specs.RowReading.{row_in};
 ghost use Rattle.image_rows.specs.RowViews.{row_view};
 ghost use Rattle.recovery.specs.Damage.{fault_at, fault_of_first, header_of, is_due, kind_at};
 
-use crate::damaged::{Kind, Reason};
+use crate::damaged::{DamageKind, Reason};
 use image_rows::{Header, ReadRow, read_row};
 
 // The header that these bytes are.
@@ -18,19 +18,19 @@ pub(crate) fn header_of(bytes: &[u8]) -> Option<Header>
 }
 
 // What the row at a place after the header is to hold.
-pub(crate) fn kind_at(header: &Header, place: u64) -> Kind
+pub(crate) fn kind_at(header: &Header, place: u64) -> DamageKind
     ensures { result ≡ kind_at header.now place }
 {
     let rules = u64::from(header.rules);
     let radios = rules + u64::from(header.radios);
     if place <= rules {
-        Kind::Rule
+        DamageKind::Rule
     } else if place <= radios {
-        Kind::Radio
+        DamageKind::Radio
     } else if place <= radios + u64::from(header.mail) {
-        Kind::Item
+        DamageKind::Item
     } else {
-        Kind::Station
+        DamageKind::Station
     }
 }
 

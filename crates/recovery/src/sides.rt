@@ -8,7 +8,7 @@ ghost use Rattle.checkpoint.specs.declared.side.Side.{Side};
 ghost use Rattle.checkpoint.specs.OnSide.{epoch_of, slot_form};
 ghost use Rattle.recovery.specs.Checking.{greater};
 ghost use Rattle.recovery.specs.Opens.{chosen, side_at, side_in};
-ghost use Rattle.recovery.specs.Opening.{Gives, header_reads};
+ghost use Rattle.recovery.specs.Opening.{IsValueIn, header_reads};
 ghost use Rattle.recovery.specs.Inside.Current.{HasForm};
 ghost use Rattle.recovery.specs.Inside.Reads.{IsOfRoots, IsOfSector, ReadsOrFails};
 
@@ -50,7 +50,7 @@ pub(crate) fn read_head<D: Disk>(
     side: Side,
 ) -> Result<Option<Head>, StoreFault>
     requires room { disk_size layout.now ≤ (D.view disk.old).sectors }
-    ensures exact { (D.view disk.old).honest → Gives (option_map (λ head. head.epoch)) result (side_at layout.now side (D.view disk.old).reads) }
+    ensures exact { (D.view disk.old).honest → IsValueIn (option_map (λ head. head.epoch)) result (side_at layout.now side (D.view disk.old).reads) }
     ensures form { IfOk result (λ found. (D.view disk.old).honest → HasForm (slot_form layout.now side (D.view disk.old).reads) found) }
     ensures calls { IfOk result (λ found. (D.view disk.old).honest
         → HasCalled (D.view disk.old) (D.view disk.new) (header_reads layout.now side (D.view disk.old).reads)) }
@@ -97,8 +97,8 @@ pub(crate) fn greater(a: u64, b: u64) -> Option<Side>
 
 // The side that counts, of those with an open root, by their headers: the one of the greater epoch. Sector 1 is at fault if
 // there is none, sector 2 if both have one epoch.
-fn chosen(a: Option<Head>, b: Option<Head>) -> Result<Current, StoreFault>
-    ensures value { Gives (λ current. current.side) result (chosen (option_map (λ head. head.epoch) a) (option_map (λ head. head.epoch) b)) }
+fn choose_side(a: Option<Head>, b: Option<Head>) -> Result<Current, StoreFault>
+    ensures value { IsValueIn (λ current. current.side) result (chosen (option_map (λ head. head.epoch) a) (option_map (λ head. head.epoch) b)) }
     ensures form { (form : Side → Form) → HasForm (form Side.A) a → HasForm (form Side.B) b → IfOk result (λ current. current.form ≡ form current.side) }
     ensures kinds { IfErr result IsOfRoots }
 {
@@ -117,7 +117,7 @@ fn chosen(a: Option<Head>, b: Option<Head>) -> Result<Current, StoreFault>
 // The side that counts, and the form of its records. The first sector of each open side's slot is read.
 pub(crate) fn read_side<D: Disk>(disk: &mut D, layout: &Layout) -> Result<Current, StoreFault>
     requires room { disk_size layout.now ≤ (D.view disk.old).sectors }
-    ensures exact { (D.view disk.old).honest → Gives (λ current. current.side) result (side_in layout.now (D.view disk.old).reads) }
+    ensures exact { (D.view disk.old).honest → IsValueIn (λ current. current.side) result (side_in layout.now (D.view disk.old).reads) }
     ensures form { IfOk result (λ current. (D.view disk.old).honest → current.form ≡ slot_form layout.now current.side (D.view disk.old).reads) }
     ensures calls { IfOk result (λ current. (D.view disk.old).honest → HasCalled (D.view disk.old) (D.view disk.new)
         (header_reads layout.now Side.A (D.view disk.old).reads ++ header_reads layout.now Side.B (D.view disk.old).reads)) }
@@ -125,5 +125,5 @@ pub(crate) fn read_side<D: Disk>(disk: &mut D, layout: &Layout) -> Result<Curren
 {
     let a = read_head(disk, layout, Side::A)?;
     let b = read_head(disk, layout, Side::B)?;
-    chosen(a, b)
+    choose_side(a, b)
 }

@@ -84,7 +84,7 @@ impl<A: Allocator + Copy, D: Disk> Store<A, D> {
             self.broken = false;
             return Err(StoreFault::NoMemory);
         };
-        self.keep(if_accepted(&reply, &commands))?;
+        self.persist(if_accepted(&reply, &commands))?;
         self.broken = false;
         Ok(reply)
     }

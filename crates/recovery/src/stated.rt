@@ -10,7 +10,7 @@ ghost use Rattle.recovery.specs.Inside.Damaged.{IsBadRecord, slot_header};
 ghost use Rattle.recovery.specs.Inside.Reads.{ReadsOrFails};
 
 use crate::row_faults::header_of;
-use crate::{Kind, Reason, StoreFault};
+use crate::{DamageKind, Reason, StoreFault};
 use byteorder::{BigEndian, ByteOrder};
 use centre_core::LAST_NUMBER;
 use checkpoint::{Layout, Side, stated_form};
@@ -108,7 +108,7 @@ pub(crate) fn read_record_kind<D: Disk>(
     layout: &Layout,
     side: Side,
     at: u64,
-) -> Result<Kind, StoreFault>
+) -> Result<DamageKind, StoreFault>
     requires inside { at < (D.view disk.old).sectors }
     ensures exact { IfOk result (λ kind. (D.view disk.old).honest → kind ≡ record_kind layout.now side (D.view disk.old).reads at) }
     ensures reads { ReadsOrFails IsOfDamage (D.view disk.old) (D.view disk.new) result }
@@ -117,8 +117,8 @@ pub(crate) fn read_record_kind<D: Disk>(
     disk.read(at, &mut bytes)?;
     let end = layout.half(side) + u64::from(layout.journal());
     if at == end.saturating_sub(1) {
-        Ok(Kind::Gate)
+        Ok(DamageKind::Gate)
     } else {
-        Ok(Kind::Record(BigEndian::read_u16(&bytes)))
+        Ok(DamageKind::Record(BigEndian::read_u16(&bytes)))
     }
 }

@@ -6,7 +6,9 @@ use crate::opens::{
 };
 use checkpoint::Side;
 use linked_list_allocator::LocalHeap;
-use recovery::{Checked, Damage, Figures, Kind, Reason, SideState, StoreFault, check, damage_of};
+use recovery::{
+    Checked, Damage, DamageKind, Figures, Reason, SideState, StoreFault, check, damage_of,
+};
 use sector_disk::{Disk, Failing, FailingDisk, MemoryDisk};
 use std::alloc::Global;
 
@@ -246,7 +248,7 @@ const OF_EACH_KIND: [u8; 33] = [
 ];
 
 /// A damaged sector: what it is to hold, and what is wrong with it.
-type Bad = (u64, Kind, Reason);
+type Bad = (u64, DamageKind, Reason);
 
 /// Whether these are the damaged sectors.
 fn are_same(found: &[Damage], wanted: &[Bad]) -> bool {
@@ -299,11 +301,11 @@ const EACH_KIND: [(u64, &[u8]); 11] = [
 ];
 
 const BAD_OF_EACH_KIND: [Bad; 5] = [
-    (4, Kind::Rule, Reason::Unreadable),
-    (6, Kind::Radio, Reason::OutOfPlace),
-    (7, Kind::Item, Reason::Unreadable),
-    (8, Kind::Station, Reason::OutOfPlace),
-    (590, Kind::Record(0), Reason::Unreadable),
+    (4, DamageKind::Rule, Reason::Unreadable),
+    (6, DamageKind::Radio, Reason::OutOfPlace),
+    (7, DamageKind::Item, Reason::Unreadable),
+    (8, DamageKind::Station, Reason::OutOfPlace),
+    (590, DamageKind::Record(0), Reason::Unreadable),
 ];
 
 #[test]
@@ -320,9 +322,9 @@ const REFUSED: [(u64, &[u8]); 5] = [
     (628, &OPEN),
 ];
 
-const BAD_RECORD: [Bad; 1] = [(590, Kind::Record(1), Reason::Refused)];
+const BAD_RECORD: [Bad; 1] = [(590, DamageKind::Record(1), Reason::Refused)];
 
-const BAD_HEADER: [Bad; 1] = [(296, Kind::Header, Reason::Unreadable)];
+const BAD_HEADER: [Bad; 1] = [(296, DamageKind::Header, Reason::Unreadable)];
 
 #[test]
 fn nothing_is_judged_after_a_header_or_a_record(rt: HostRuntime) {

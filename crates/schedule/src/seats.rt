@@ -4,7 +4,7 @@ ghost use Rattle.std.specs.Prelude.{◌≡◌, ◌++◌, ◌∷◌, [], IfOk, On
 ghost use Rattle.schedule.specs.World.{line, line_of, with_line};
 ghost use Rattle.schedule.specs.Next.{is_empty, is_place, first_one, emptied, unread};
 
-use crate::station::Station;
+use crate::station::StationLine;
 use centre_core::Command;
 use std::alloc::{AllocError, Allocator};
 use std::marker::Model;
@@ -12,7 +12,7 @@ use std::marker::Model;
 /// The stations in order.
 #[derive(Drop)]
 pub(crate) struct Seats<A: Allocator> {
-    stations: Vec<Station<A>, A>,
+    stations: Vec<StationLine<A>, A>,
 }
 
 impl<A: Allocator> Model for Seats<A> {
@@ -27,17 +27,17 @@ impl<A: Allocator> Model for Seats<A> {
 fn idle_stations<A: Allocator + Copy>(
     alloc: A,
     sessions: u16,
-) -> Result<Vec<Station<A>, A>, AllocError>
+) -> Result<Vec<StationLine<A>, A>, AllocError>
     ensures { IfOk result (λ v. v.items ≡ replicate sessions (line [] 0)) }
 {
     let mut stations = Vec::new(alloc);
     for _ in 0..sessions {
-        stations.push(Station::new(alloc))?;
+        stations.push(StationLine::new(alloc))?;
     }
     Ok(stations)
 }
 
-fn fall_all<A: Allocator>(stations: &mut Vec<Station<A>, A>)
+fn fall_all<A: Allocator>(stations: &mut Vec<StationLine<A>, A>)
     ensures { stations.new.items ≡ emptied stations.old.items }
 {
     for station in stations.iter_mut() {
@@ -45,7 +45,7 @@ fn fall_all<A: Allocator>(stations: &mut Vec<Station<A>, A>)
     }
 }
 
-fn forget_all<A: Allocator>(stations: &mut Vec<Station<A>, A>)
+fn forget_all<A: Allocator>(stations: &mut Vec<StationLine<A>, A>)
     ensures { stations.new.items ≡ unread stations.old.items }
 {
     for station in stations.iter_mut() {

@@ -9,12 +9,12 @@ use std::marker::Model;
 /// A station: the commands that it submitted and that are not sealed, oldest first, and how many accepted
 /// commands it has seen.
 #[derive(Drop)]
-pub(crate) struct Station<A: Allocator> {
+pub(crate) struct StationLine<A: Allocator> {
     queue: Vec<Command<A>, A>,
     seen: usize,
 }
 
-impl<A: Allocator> Model for Station<A> {
+impl<A: Allocator> Model for StationLine<A> {
     ghost use Rattle.schedule.specs.World.{Line, line};
 
     ghost Value = { Line A };
@@ -22,11 +22,11 @@ impl<A: Allocator> Model for Station<A> {
     ghost view = { λ s. line s.queue.items s.seen };
 }
 
-impl<A: Allocator> Station<A> {
+impl<A: Allocator> StationLine<A> {
     pub(crate) fn new(alloc: A) -> Self
         ensures { result ≡ line [] 0 }
     {
-        Station {
+        StationLine {
             queue: Vec::new(alloc),
             seen: 0,
         }

@@ -216,7 +216,7 @@ fn head_value<A: Allocator>(bits: &Bits<A>) -> Head
     }
 }
 
-fn whole<A: Allocator, B: Allocator>(alloc: A, bits: &Bits<B>) -> Result<Sds<A>, SdsFault>
+fn read_sds<A: Allocator, B: Allocator>(alloc: A, bits: &Bits<B>) -> Result<Sds<A>, SdsFault>
     ensures { Gives result (reading bits.now) }
 {
     match fault(bits) {
@@ -234,7 +234,7 @@ pub fn read<A: Allocator, B: Allocator>(alloc: A, bits: &Bits<B>) -> Result<Sds<
     // Else the result is the first fault.
     ensures exact { Gives result (reading bits.now) }
 {
-    whole(alloc, bits)
+    read_sds(alloc, bits)
 }
 
 /// The head of the PDU that the bits spell; else the first fault from the left. Takes no memory.

@@ -134,7 +134,7 @@ fn is_too_long<A: Allocator>(sds: &Sds<A>) -> bool
     }
 }
 
-fn written<A: Allocator, B: Allocator>(alloc: A, sds: &Sds<B>) -> Result<Bits<A>, SdsFault>
+fn write_sds<A: Allocator, B: Allocator>(alloc: A, sds: &Sds<B>) -> Result<Bits<A>, SdsFault>
     ensures exact { Gives result (writing sds.now) }
     ensures range { OnOk result (IsInRange sds.now) }
 {
@@ -152,5 +152,5 @@ pub fn write<A: Allocator, B: Allocator>(alloc: A, sds: &Sds<B>) -> Result<Bits<
     // The bits spell the PDU, so `read` reads it back.
     ensures spelt { IfOk result (λ bits. Spells sds.now bits) }
 {
-    written(alloc, sds)
+    write_sds(alloc, sds)
 }

@@ -10,8 +10,8 @@ use Rattle.recovery.specs.declared.checking.Checked.{Checked}
 use Rattle.recovery.specs.declared.checking.SideState.{SideState}
 use Rattle.recovery.specs.declared.checking.SideState.TheVariants as state
 use Rattle.recovery.specs.declared.damaged.Damage.{Damage}
-use Rattle.recovery.specs.declared.damaged.Kind.{Kind}
-use Rattle.recovery.specs.declared.damaged.Kind.TheVariants as kind
+use Rattle.recovery.specs.declared.damaged.DamageKind.{DamageKind}
+use Rattle.recovery.specs.declared.damaged.DamageKind.TheVariants as kind
 use Rattle.recovery.specs.declared.damaged.Reason.{Reason}
 use Rattle.recovery.specs.declared.damaged.Reason.TheVariants as reason
 use Rattle.recovery.specs.declared.figures.Figures.{Figures}
@@ -21,7 +21,7 @@ use Rattle.served_disk.specs.Losses.{loss_line}
 use Rattle.served_disk.specs.Showing.{figures_line, side_text}
 
 -- what a sector is to hold
-abbrev pub kind_text : Kind → List Byte
+abbrev pub kind_text : DamageKind → List Byte
 kind_text kind.Header = codes "header"
 kind_text kind.Rule = codes "row of a rule"
 kind_text kind.Radio = codes "row of a radio"

@@ -4,12 +4,12 @@ use Rattle.std.specs.List.{list_any}
 use Rattle.sector_disk.specs.Numbers.{Byte, Sector}
 use Rattle.checkpoint.specs.declared.side.Side.{Side}
 use Rattle.recovery.specs.declared.damaged.Damage.{Damage}
-use Rattle.recovery.specs.declared.damaged.Kind.{Kind}
-use Rattle.recovery.specs.declared.damaged.Kind.TheVariants as kind
+use Rattle.recovery.specs.declared.damaged.DamageKind.{DamageKind}
+use Rattle.recovery.specs.declared.damaged.DamageKind.TheVariants as kind
 use Rattle.served_disk.specs.Showing.{side_text}
 
 -- both are rows of the same kind
-abbrev pub is_row_of : Kind → Kind → Bool
+abbrev pub is_row_of : DamageKind → DamageKind → Bool
 is_row_of kind.Rule kind.Rule = true
 is_row_of kind.Radio kind.Radio = true
 is_row_of kind.Item kind.Item = true
@@ -17,18 +17,18 @@ is_row_of kind.Station kind.Station = true
 is_row_of _ _ = false
 
 -- the sector is to hold the header of an image
-abbrev pub is_header : Kind → Bool
+abbrev pub is_header : DamageKind → Bool
 is_header kind.Header = true
 is_header _ = false
 
 -- the sector is to hold a record, or a gate that no record follows
-abbrev pub is_of_records : Kind → Bool
+abbrev pub is_of_records : DamageKind → Bool
 is_of_records (kind.Record commands) = true
 is_of_records kind.Gate = true
 is_of_records _ = false
 
 -- how many rows of a kind are damaged
-abbrev pub rows_in : Kind → List Damage → ℕ
+abbrev pub rows_in : DamageKind → List Damage → ℕ
 rows_in row damaged = length (filter (λ it. is_row_of row it.kind) damaged)
 
 -- the first damaged sector that is to hold a record or a gate: from there on records are lost

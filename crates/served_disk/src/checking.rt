@@ -26,7 +26,9 @@ use crate::showing_figures::{print_figures, side_text};
 use crate::{CountedDisk, DiskFiles, Refused, Tally};
 use checkpoint::Side;
 use file_disk::{FileDisk, SectorFile};
-use recovery::{Checked, Damage, Figures, Kind, Reason, SideState, StoreFault, check, damage_of};
+use recovery::{
+    Checked, Damage, DamageKind, Figures, Reason, SideState, StoreFault, check, damage_of,
+};
 use sector_disk::Disk;
 use std::alloc::{AllocError, Allocator, Global};
 use std::io;
@@ -44,16 +46,16 @@ pub struct CheckReport<A: Allocator> {
 }
 
 /// Writes what a sector is to hold.
-fn print_kind<W: Write>(out: &mut W, kind: Kind) -> io::Result<()>
+fn print_kind<W: Write>(out: &mut W, kind: DamageKind) -> io::Result<()>
     ensures { OnOk result (Appends (W.contents out.old) (W.contents out.new) (kind_text kind)) }
 {
     match kind {
-        Kind::Header => out.write_all(b"header"),
-        Kind::Rule => out.write_all(b"row of a rule"),
-        Kind::Radio => out.write_all(b"row of a radio"),
-        Kind::Item => out.write_all(b"row of an item"),
-        Kind::Station => out.write_all(b"row of a station"),
-        Kind::Record(commands) => {
+        DamageKind::Header => out.write_all(b"header"),
+        DamageKind::Rule => out.write_all(b"row of a rule"),
+        DamageKind::Radio => out.write_all(b"row of a radio"),
+        DamageKind::Item => out.write_all(b"row of an item"),
+        DamageKind::Station => out.write_all(b"row of a station"),
+        DamageKind::Record(commands) => {
             let parts = [
                 LinePart::Text("record of "),
                 LinePart::Number(u64::from(commands)),
@@ -61,7 +63,7 @@ fn print_kind<W: Write>(out: &mut W, kind: Kind) -> io::Result<()>
             ];
             print(out, &parts)
         }
-        Kind::Gate => out.write_all(b"last gate"),
+        DamageKind::Gate => out.write_all(b"last gate"),
     }
 }
 

@@ -6,38 +6,38 @@ ghost use Rattle.served_disk.specs.Losses.{is_header, is_of_records, is_row_of, 
 use crate::printing::{LinePart, print};
 use crate::showing_figures::side_text;
 use checkpoint::Side;
-use recovery::{Damage, Kind};
+use recovery::{Damage, DamageKind};
 use std::io;
 use std::io::Write;
 
 /// Whether both are rows of the same kind.
-fn is_row_of(kind: Kind, other: Kind) -> bool
+fn is_row_of(kind: DamageKind, other: DamageKind) -> bool
     ensures { result ≡ is_row_of kind other }
 {
     match (kind, other) {
-        (Kind::Rule, Kind::Rule) => true,
-        (Kind::Radio, Kind::Radio) => true,
-        (Kind::Item, Kind::Item) => true,
-        (Kind::Station, Kind::Station) => true,
+        (DamageKind::Rule, DamageKind::Rule) => true,
+        (DamageKind::Radio, DamageKind::Radio) => true,
+        (DamageKind::Item, DamageKind::Item) => true,
+        (DamageKind::Station, DamageKind::Station) => true,
         _ => false,
     }
 }
 
-fn is_header(kind: Kind) -> bool
+fn is_header(kind: DamageKind) -> bool
     ensures { result ≡ is_header kind }
 {
-    matches!(kind, Kind::Header)
+    matches!(kind, DamageKind::Header)
 }
 
 /// Whether a sector of this kind is to hold a record, or a gate that no record follows.
-fn is_of_records(kind: Kind) -> bool
+fn is_of_records(kind: DamageKind) -> bool
     ensures { result ≡ is_of_records kind }
 {
-    matches!(kind, Kind::Record(_) | Kind::Gate)
+    matches!(kind, DamageKind::Record(_) | DamageKind::Gate)
 }
 
 /// How many rows of a kind are damaged.
-fn rows_in(kind: Kind, damaged: &[Damage]) -> u64
+fn rows_in(kind: DamageKind, damaged: &[Damage]) -> u64
     ensures { result ≡ rows_in kind damaged.now }
 {
     damaged.iter().filter(|it| is_row_of(kind, it.kind)).count() as u64
@@ -65,13 +65,13 @@ fn print_rows<W: Write>(out: &mut W, damaged: &[Damage]) -> io::Result<()>
 {
     let parts = [
         LinePart::Text(" loses rules "),
-        LinePart::Number(rows_in(Kind::Rule, damaged)),
+        LinePart::Number(rows_in(DamageKind::Rule, damaged)),
         LinePart::Text(" radios "),
-        LinePart::Number(rows_in(Kind::Radio, damaged)),
+        LinePart::Number(rows_in(DamageKind::Radio, damaged)),
         LinePart::Text(" items "),
-        LinePart::Number(rows_in(Kind::Item, damaged)),
+        LinePart::Number(rows_in(DamageKind::Item, damaged)),
         LinePart::Text(" stations "),
-        LinePart::Number(rows_in(Kind::Station, damaged)),
+        LinePart::Number(rows_in(DamageKind::Station, damaged)),
     ];
     print(out, &parts)
 }

@@ -8,7 +8,7 @@ use Rattle.logbook.specs.Pages.{Cell, cell, keeps, no_nib, step, Moves, Goes}
 use Rattle.std.specs.declared.alloc.Global.{Global}
 use Rattle.centre_core.specs.Asked.{Asked}
 use Rattle.snapshots.proofs.Prefixes.{prefix_whole}
-use Rattle.snapshots.specs.Log.{IsCounted, Extends}
+use Rattle.snapshots.specs.Log.{CountsLog, Extends}
 
 abbrev shown : List (Asked Global) → List (Asked Global)
 shown log = []
@@ -18,7 +18,7 @@ moved xs ys n = Unit {0}
 
 adds_goes : (log v : List (Asked Global)) (e : Asked Global) (old : ℕ) → length v ≡ old → IsPrefix v log
     → (b : Bool) → (length log == old) ≡ b
-    → Goes IsCounted shown moved 0 (v, (no_nib, None)) (λ n. either (n == old) (old + 1) n) (Extends (step 0 old (old + 1) e) (v, (no_nib, None))) ((length log, true) ∷ (0, true) ∷ []) log
+    → Goes CountsLog shown moved 0 (v, (no_nib, None)) (λ n. either (n == old) (old + 1) n) (Extends (step 0 old (old + 1) e) (v, (no_nib, None))) ((length log, true) ∷ (0, true) ∷ []) log
 adds_goes log v e old len pre true is =
     let here : length log ≡ old = grind (arith, nat_tests) in
     let same : v ≡ log = prefix_whole v log pre (omega arith) in
@@ -45,9 +45,9 @@ adds_goes log v e old len pre false is =
 
 -- whatever the book is, the exchange adds the command to all that was seen, or finds that the list is longer
 pub adds_moves : (v : List (Asked Global)) (e : Asked Global) (old : ℕ) → length v ≡ old
-    → Moves IsCounted shown moved 0 (v, (no_nib, None)) (λ n. either (n == old) (old + 1) n) (Extends (step 0 old (old + 1) e) (v, (no_nib, None)))
+    → Moves CountsLog shown moved 0 (v, (no_nib, None)) (λ n. either (n == old) (old + 1) n) (Extends (step 0 old (old + 1) e) (v, (no_nib, None)))
 adds_moves v e old len cs log kept pre away =
     let P : List Cell → Type 0 = λ c. (0 < length c) × ((cell c 0).1 ≡ true) ×
-    Goes IsCounted shown moved 0 (v, (no_nib, None)) (λ n. either (n == old) (old + 1) n) (Extends (step 0 old (old + 1) e) (v, (no_nib, None))) c
+    Goes CountsLog shown moved 0 (v, (no_nib, None)) (λ n. either (n == old) (old + 1) n) (Extends (step 0 old (old + 1) e) (v, (no_nib, None))) c
     log in
     subst P (sym kept) (omega arith, refl, adds_goes log v e old len pre (length log == old) refl)

@@ -19,7 +19,7 @@ use Rattle.registration.specs.contracts.registry.Registry as registry
 use Rattle.group_attach.proofs.groups.Groups.TheSendSync as groups_crosses
 use Rattle.group_attach.specs.contracts.groups.Groups as groups
 use Rattle.mailbox.proofs.node.Node.TheLaws.TheKnot as mail_knot
-use Rattle.mailbox.proofs.place.Place.TheSendSync as place
+use Rattle.mailbox.proofs.place.ItemPlace.TheSendSync as place
 use Rattle.mailbox.proofs.boxes.Boxes.TheSendSync as boxes_crosses
 use Rattle.mailbox.specs.contracts.boxes.Boxes as boxes
 use Rattle.mailbox.specs.contracts.node.Node as mail_node
@@ -36,9 +36,9 @@ use Rattle.crossbeam_utils.specs.declared.rule.Protocol.{Ghosts}
 use Rattle.snapshots.specs.declared.log.Centre as centre
 use Rattle.snapshots.specs.contracts.snapshot.Snapshot as snapshot
 use Rattle.snapshots.specs.contracts.published.Published as published
-use Rattle.snapshots.specs.contracts.rule.View as view
+use Rattle.snapshots.specs.contracts.rule.CopyView as view
 use Rattle.snapshots.specs.contracts.rule.ViewsRule as rule
-use Rattle.snapshots.specs.contracts.rule.ViewsRuleProtocolSnapshotView.TheImpl as protocol
+use Rattle.snapshots.specs.contracts.rule.ViewsRuleProtocolSnapshotCopyView.TheImpl as protocol
 use Rattle.snapshots.specs.contracts.viewer.Viewer as viewer
 use Rattle.snapshots.specs.contracts.viewer.Viewer.TheInside as inside
 

@@ -8,8 +8,8 @@ use Rattle.centre_core.specs.Asked.{Asked}
 use Rattle.centre_core.specs.State.{State, empty}
 
 -- the first word of the book is the length of the list. A book has two words; the second is not used and stays 0
-abbrev pub IsCounted : List Cell → List (Asked Global) → Type 0
-IsCounted cells log = cells ≡ (length log, true) ∷ (0, true) ∷ []
+abbrev pub CountsLog : List Cell → List (Asked Global) → Type 0
+CountsLog cells log = cells ≡ (length log, true) ∷ (0, true) ∷ []
 
 -- the first word of the book, which counts the commands of the list
 abbrev pub word_of : Book → Named

@@ -14,9 +14,9 @@ pub struct LogRule;
 impl Rule<Command<Global>, u64> for LogRule {
     ghost use Rattle.std.specs.Prelude.{[]};
     ghost use base.Fml.{ftrue};
-    ghost use Rattle.snapshots.specs.Log.{IsCounted};
+    ghost use Rattle.snapshots.specs.Log.{CountsLog};
 
-    ghost holds = { λ cells log. IsCounted cells log };
+    ghost holds = { λ cells log. CountsLog cells log };
 
     ghost first = { [] };
 

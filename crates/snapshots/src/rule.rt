@@ -10,7 +10,7 @@ use std::collections::LinkedList;
 use std::marker::PhantomData;
 
 /// What the publisher or a viewer has seen. No value of it is made.
-pub struct View {
+pub struct CopyView {
     pub seen: LinkedList<Command<Global>>,
 }
 
@@ -18,13 +18,13 @@ pub struct ViewsRule<J: Centre> {
     of: PhantomData<J>,
 }
 
-impl<J: Centre> Protocol<Snapshot, View> for ViewsRule<J> {
+impl<J: Centre> Protocol<Snapshot, CopyView> for ViewsRule<J> {
     ghost use Rattle.std.specs.Prelude.{[]};
-    ghost use Rattle.snapshots.specs.Views.{IsSeenBy, view_of};
+    ghost use Rattle.snapshots.specs.Views.{IsSeenBy, view_with};
 
     ghost holds = { IsSeenBy J.base J.book };
 
-    ghost first = { view_of [] };
+    ghost first = { view_with [] };
 }
 
 /// One entry of a viewer, or one publication.
@@ -32,14 +32,14 @@ pub struct Sees<J: Centre> {
     of: PhantomData<J>,
 }
 
-impl<J: Centre> Outcome<Snapshot, View> for Sees<J> {
+impl<J: Centre> Outcome<Snapshot, CopyView> for Sees<J> {
     ghost use Rattle.snapshots.specs.Views.{Sees};
 
     ghost then = { λ v x y w. Sees J.base J.book v y w };
 }
 
-pub type SnapshotReader<J> = Reader<Snapshot, View, ViewsRule<J>>;
+pub type SnapshotReader<J> = Reader<Snapshot, CopyView, ViewsRule<J>>;
 
-pub type Inside<J> = Reading<Snapshot, View, ViewsRule<J>>;
+pub type Inside<J> = Reading<Snapshot, CopyView, ViewsRule<J>>;
 
-pub type SnapshotWriter<J> = Writer<Snapshot, Change, View, ViewsRule<J>>;
+pub type SnapshotWriter<J> = Writer<Snapshot, Change, CopyView, ViewsRule<J>>;

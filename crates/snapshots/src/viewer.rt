@@ -11,7 +11,7 @@ ghost use Rattle.snapshots.specs.declared.viewer.ReadFault.TheVariants.{Closed, 
 use crate::log::Centre;
 use crate::published::Published;
 use crate::rule::SnapshotReader;
-use crate::visit::{Visit, entered};
+use crate::visit::{Visit, enter_copy};
 use centre_core::{Query, QueryAnswer};
 use core::mem::{replace, replace_with};
 use listings::Listing;
@@ -48,7 +48,7 @@ impl<J: Centre> Model for Viewer<J> {
 }
 
 // The answer of the published copy, and how many commands made that copy; and the viewer, which has left the copy.
-fn answered<J: Centre, C: Allocator + Copy>(
+fn answer_query<J: Centre, C: Allocator + Copy>(
     viewer: Viewer<J>,
     asked: (&Query, C),
 ) -> (Viewer<J>, Option<(Result<QueryAnswer<C>, AllocError>, u64)>)
@@ -59,7 +59,7 @@ fn answered<J: Centre, C: Allocator + Copy>(
     ensures memory { IfSome result.1 (λ r. OnErr r.0 (AsksForList asked.entry.0.now)) }
     ensures closed { IfNone result.1 (result.0 ≡ viewer) }
 {
-    match entered(viewer) {
+    match enter_copy(viewer) {
         Ok(visit) => {
             let (query, alloc) = asked;
             let answer = visit.query(alloc, query);
@@ -82,11 +82,11 @@ fn answer_in_place<J: Centre, C: Allocator + Copy>(
     ensures memory { IfSome result (λ r. OnErr r.0 (AsksForList asked.entry.0.now)) }
     ensures closed { IfNone result (viewer.new ≡ viewer.old) }
 {
-    replace_with(viewer, asked, |viewer, asked| answered(viewer, asked))
+    replace_with(viewer, asked, |viewer, asked| answer_query(viewer, asked))
 }
 
 // The text with the listing of the published copy, or without it and why; and the viewer, which has left the copy.
-fn listed<J: Centre, C: Allocator + Copy>(
+fn put_listing<J: Centre, C: Allocator + Copy>(
     viewer: Viewer<J>,
     asked: (&Listing, Vec<u8, C>),
 ) -> (Viewer<J>, (Vec<u8, C>, Result<(), ReadFault>))
@@ -99,7 +99,7 @@ fn listed<J: Centre, C: Allocator + Copy>(
     ensures capacity { vec_capacity asked.entry.1 ≤ vec_capacity result.1.0 }
 {
     let (listing, mut text) = asked;
-    match entered(viewer) {
+    match enter_copy(viewer) {
         Ok(visit) => {
             let done = visit.list(listing, &mut text);
             (visit.leave(), (text, done.or(Err(ReadFault::NoMemory))))
@@ -125,7 +125,7 @@ fn list_in_place<J: Centre, C: Allocator + Copy>(
     replace_with(
         viewer,
         (listing, text),
-        |viewer, asked| listed(viewer, asked),
+        |viewer, asked| put_listing(viewer, asked),
     )
 }
 
@@ -180,7 +180,7 @@ impl<J: Centre> Viewer<J> {
     pub fn enter(self) -> Result<Visit<J>, Viewer<J>>
         ensures { MatchResult result (λ visit. IsPrefix self visit) (λ same. same ≡ self) }
     {
-        entered(self)
+        enter_copy(self)
     }
 
     /// How many commands it has seen or learnt.

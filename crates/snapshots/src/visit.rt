@@ -103,7 +103,7 @@ fn list_of<J: Centre>(inside: &Inside<J>, base: u64) -> Published<J>
 
 // Enters the copy that is published now, whose list begins with all that the viewer has seen or learnt. It never
 // waits. If the copy can't be entered, the viewer comes back as it was.
-pub fn entered<J: Centre>(viewer: Viewer<J>) -> Result<Visit<J>, Viewer<J>>
+pub fn enter_copy<J: Centre>(viewer: Viewer<J>) -> Result<Visit<J>, Viewer<J>>
     ensures { MatchResult result (λ visit. IsPrefix viewer visit) (λ same. same ≡ viewer) }
 {
     let Viewer {

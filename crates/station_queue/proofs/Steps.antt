@@ -13,7 +13,7 @@ use lib.ListN.{get_elem?}
 use Rattle.crossbeam_queue.specs.Fifo.{Pushes, Pops, Forks, Merges, Learns}
 use Rattle.crossbeam_queue.proofs.Lists.{at_set}
 use Rattle.station_queue.specs.declared.entry.Entry.{Entry}
-use Rattle.station_queue.specs.declared.rule.View.{View}
+use Rattle.station_queue.specs.declared.rule.QueueView.{QueueView}
 use Rattle.station_queue.specs.Entries.{station_of, entries_of}
 use Rattle.station_queue.specs.Order.{taker, sender, settled, nobody, place, places_of, HaveRoom, Fits, FitsSettled, IsInOrder, IsSameTaker, AreAllSent}
 
@@ -46,25 +46,25 @@ at_end [] a b (suc j) e = absurd (some-ne-none b (sym e))
 at_end (x ∷ xs) a b zero e = inl e
 at_end (x ∷ xs) a b (suc j) e = ⊎_elim (λ (t : get_elem? xs j ≡ some b). inl t) (λ (t : (j ≡ length xs) × (a ≡ b)). inr (ap suc t.0, t.1)) (at_end xs a b j e)
 
-abbrev EachView : (ℕ → View → Type 0) → List View → Type 0
-EachView F views = (pass : ℕ) (v : View) → get_elem? views pass ≡ some v → F pass v
+abbrev EachView : (ℕ → QueueView → Type 0) → List QueueView → Type 0
+EachView F views = (pass : ℕ) (v : QueueView) → get_elem? views pass ≡ some v → F pass v
 
-each_set : (F : ℕ → View → Type 0) (views : List View) (port : ℕ) (w : View) → F port w → ((j : ℕ) (u : View) → j ≢ port → get_elem? views j ≡ some u → F j u) → EachView F (set views port w)
-each_set F views port w mine others j u e = ⊎_elim (λ (x : (j ≡ port) × (w ≡ u)). subst (λ (y : ℕ × View). F y.0 y.1) (λ i. (sym x.0 i, x.1 i)) mine)
+each_set : (F : ℕ → QueueView → Type 0) (views : List QueueView) (port : ℕ) (w : QueueView) → F port w → ((j : ℕ) (u : QueueView) → j ≢ port → get_elem? views j ≡ some u → F j u) → EachView F (set views port w)
+each_set F views port w mine others j u e = ⊎_elim (λ (x : (j ≡ port) × (w ≡ u)). subst (λ (y : ℕ × QueueView). F y.0 y.1) (λ i. (sym x.0 i, x.1 i)) mine)
     (λ (x : (j ≢ port) × (get_elem? views j ≡ some u)). others j u x.0 x.1) (at_set views port j w u e)
 
 -- the places of all, where the view at one place is another one
-places_set : (views : List View) (pass : ℕ) (v w : View) → get_elem? views pass ≡ some v → places_of (set views pass w) + v.places ≡ places_of views + w.places
+places_set : (views : List QueueView) (pass : ℕ) (v w : QueueView) → get_elem? views pass ≡ some v → places_of (set views pass w) + v.places ≡ places_of views + w.places
 places_set [] pass v w e = absurd (some-ne-none v (sym e))
-places_set (x ∷ xs) zero v w e = let same = ap (λ (u : View). u.places) (some-injective x v e) in omega (arith, same)
+places_set (x ∷ xs) zero v w e = let same = ap (λ (u : QueueView). u.places) (some-injective x v e) in omega (arith, same)
 places_set (x ∷ xs) (suc k) v w e = let rest = places_set xs k v w e in omega (arith, rest)
 
-places_append : (views : List View) (w : View) → places_of (views ++ w ∷ []) ≡ places_of views + w.places
+places_append : (views : List QueueView) (w : QueueView) → places_of (views ++ w ∷ []) ≡ places_of views + w.places
 places_append [] w = omega arith
 places_append (x ∷ xs) w = let rest = places_append xs w in omega (arith, rest)
 
 -- a pass has no more places than there are
-places_at : (views : List View) (pass : ℕ) (v : View) → get_elem? views pass ≡ some v → v.places ≤ places_of views
+places_at : (views : List QueueView) (pass : ℕ) (v : QueueView) → get_elem? views pass ≡ some v → v.places ≤ places_of views
 places_at views pass v e = let one = places_set views pass v nobody e in omega (arith, one)
 
 no : {A : Type 0} → false ≡ true → A
@@ -88,14 +88,14 @@ begins = (
   omega arith,
 )
   where
-    only : (j : ℕ) (u : View) → j ≢ 0 → get_elem? (taker 0 [] [] 64 ∷ []) j ≡ some u → ⊥
+    only : (j : ℕ) (u : QueueView) → j ≢ 0 → get_elem? (taker 0 [] [] 64 ∷ []) j ≡ some u → ⊥
     only zero u other e = other refl
     only (suc j) u other e = some-ne-none u (sym e)
 
 within_not : (s made n m : ℕ) → (made < s) ⊎ (s ≡ 0) → n ≡ m → m ≤ made → 0 < m → n ≡ s → ⊥
 within_not s made n m late is le pos e = ⊎_elim (λ (h : made < s). let b : ⊥ = omega (arith, is, le, pos, e, h) in b) (λ (h : s ≡ 0). let b : ⊥ = omega (arith, is, le, pos, e, h) in b) late
 
-pub puts : (n pass : ℕ) (v : View) (x : Entry) → v.sends ≡ true → station_of x ≡ v.station → 0 < v.places → Pushes IsInOrder n pass v x (λ w. w ≡ sender v.station (v.sent ++ x ∷ []) (v.places - 1))
+pub puts : (n pass : ℕ) (v : QueueView) (x : Entry) → v.sends ≡ true → station_of x ≡ v.station → 0 < v.places → Pushes IsInOrder n pass v x (λ w. w ≡ sender v.station (v.sent ++ x ∷ []) (v.places - 1))
 puts n pass v x may is has items views _ h at =
     let reader = h.0 in let seat = h.1 in let made = h.2 in let taken = h.3 in
     let w = sender v.station (v.sent ++ x ∷ []) (v.places - 1) in
@@ -148,7 +148,7 @@ of_one made taken items x none = (above (station_of x) refl, below)
     below : station_of x ≤ made
     below = ⊎_elim (λ (h : made < station_of x). absurd (some_of taken items x (none (station_of x) (inl h)))) (λ (h : station_of x ≤ made). h) split
 
-pub takes : (pass : ℕ) (v : View) → v.takes ≡ true → Pops IsInOrder pass v (λ x w. (w ≡ taker v.made (v.taken ++ x ∷ []) v.settled (v.places + 1)) × (0 < station_of x) × (station_of x ≤ v.made))
+pub takes : (pass : ℕ) (v : QueueView) → v.takes ≡ true → Pops IsInOrder pass v (λ x w. (w ≡ taker v.made (v.taken ++ x ∷ []) v.settled (v.places + 1)) × (0 < station_of x) × (station_of x ≤ v.made))
 takes pass v may x items views h at =
     let reader = h.0 in let seat = h.1 in let made = h.2 in let taken = h.3 in
     let w = taker v.made (v.taken ++ x ∷ []) v.settled (v.places + 1) in
@@ -157,7 +157,7 @@ takes pass v may x items views h at =
     let mine = this.0 may in
     let now = taken ++ x ∷ [] in
     let same : taken ++ (x ∷ items) ≡ now ++ items = sym (append_assoc taken (x ∷ []) items) in
-    let settled_still : (u : View) → All (FitsSettled reader seat made taken (taken ++ (x ∷ items))) u.settled → All (FitsSettled reader seat made now (now ++ items)) u.settled =
+    let settled_still : (u : QueueView) → All (FitsSettled reader seat made taken (taken ++ (x ∷ items))) u.settled → All (FitsSettled reader seat made now (now ++ items)) u.settled =
     λ u was. All-weaker (FitsSettled reader seat made taken (taken ++ (x ∷ items))) (FitsSettled reader seat made now (now ++ items))
     (λ k f. (f.0, f.1, ap (entries_of k.station) (sym same) ∙ f.2)) u.settled was in (
       w,
@@ -189,20 +189,20 @@ seat_here s o seat = ap (λ b. cond b o (seat s)) (test_by_same s s refl)
 seat_else : (s : ℕ) (o : Option ℕ) (seat : ℕ → Option ℕ) (k : ℕ) → k ≢ s → put_seat s o seat k ≡ seat k
 seat_else s o seat k n = ap (λ b. cond b o (seat k)) (other_test k s n)
 
-pub forks : (pass : ℕ) (v : View) → v.takes ≡ true → Forks IsInOrder pass v (taker (v.made + 1) v.taken v.settled v.places) (sender (v.made + 1) [] 0)
+pub forks : (pass : ℕ) (v : QueueView) → v.takes ≡ true → Forks IsInOrder pass v (taker (v.made + 1) v.taken v.settled v.places) (sender (v.made + 1) [] 0)
 forks pass v may items views h at =
     let reader = h.0 in let seat = h.1 in let made = h.2 in let taken = h.3 in
     let this = h.5 pass v at in
     let mine = this.0 may in
     let left = taker (v.made + 1) v.taken v.settled v.places in
     let right = sender (v.made + 1) [] 0 in
-    let vs : List View = set views pass left in
+    let vs : List QueueView = set views pass left in
     let room : HaveRoom items (vs ++ right ∷ []) = let one = places_set views pass v left at in let more = places_append vs right in let was = h.6 in omega (arith, one, more, was) in
     let new = put_seat (v.made + 1) (Some (length vs)) seat in
     let all = taken ++ items in
-    let F : ℕ → View → Type 0 = Fits reader new (made + 1) taken all in
+    let F : ℕ → QueueView → Type 0 = Fits reader new (made + 1) taken all in
     let still : (s : ℕ) → s ≤ made → new s ≡ seat s = λ s le. seat_else (v.made + 1) (Some (length vs)) seat s (λ e. omega (arith, e, le, mine.2)) in
-    let settled_still : (u : View) → All (FitsSettled reader seat made taken all) u.settled → All (FitsSettled reader new (made + 1) taken all) u.settled =
+    let settled_still : (u : QueueView) → All (FitsSettled reader seat made taken all) u.settled → All (FitsSettled reader new (made + 1) taken all) u.settled =
     λ u was. All-weaker (FitsSettled reader seat made taken all) (FitsSettled reader new (made + 1) taken all) (λ k f. (still k.station f.1 ∙ f.0, omega (arith, f.1), f.2)) u.settled was in
     let old : EachView F vs =
     each_set F views pass left ((λ _. (mine.0, mine.1, ap (λ k. k + 1) mine.2)), settled_still v this.1, (λ e. no e))
@@ -223,7 +223,7 @@ forks pass v may items views h at =
       taken,
       (λ s late. h.4 s (⊎_elim (λ (q : made + 1 < s). inl (let r : made < s = omega (arith, q) in r)) (λ (q : s ≡ 0). inr q) late)),
       (λ j u e. ⊎_elim (λ (x : get_elem? vs j ≡ some u). old j u x)
-          (λ (x : (j ≡ length vs) × (right ≡ u)). subst (λ (y : ℕ × View). F y.0 y.1) (λ i. (sym x.0 i, x.1 i)) here) (at_end vs right u j e)),
+          (λ (x : (j ≡ length vs) × (right ≡ u)). subst (λ (y : ℕ × QueueView). F y.0 y.1) (λ i. (sym x.0 i, x.1 i)) here) (at_end vs right u j e)),
       room,
     )
 
@@ -234,7 +234,7 @@ none_still s seat k e = go (k == s)
     go true = refl
     go false = e
 
-pub merges : (pass : ℕ) (v : View) (other : ℕ) (w : View) → v.takes ≡ true → w.sends ≡ true →
+pub merges : (pass : ℕ) (v : QueueView) (other : ℕ) (w : QueueView) → v.takes ≡ true → w.sends ≡ true →
     Merges IsInOrder pass v other w (taker v.made v.taken (v.settled ++ settled w.station w.sent ∷ []) v.places) nobody
 merges pass v other w may came items views h at apart there =
     let reader = h.0 in let seat = h.1 in let made = h.2 in let taken = h.3 in
@@ -249,8 +249,8 @@ merges pass v other w may came items views h at apart there =
     let theirs = (h.5 other w was).2 came in
     let new = put_seat w.station None seat in
     let all = taken ++ items in
-    let Now : ℕ → View → Type 0 = λ j y. j ≢ other → Fits reader new made taken all j y in
-    let settled_still : (u : View) → All (FitsSettled reader seat made taken all) u.settled → All (FitsSettled reader new made taken all) u.settled =
+    let Now : ℕ → QueueView → Type 0 = λ j y. j ≢ other → Fits reader new made taken all j y in
+    let settled_still : (u : QueueView) → All (FitsSettled reader seat made taken all) u.settled → All (FitsSettled reader new made taken all) u.settled =
     λ u was. All-weaker (FitsSettled reader seat made taken all) (FitsSettled reader new made taken all) (λ k f. (none_still w.station seat k.station f.0, f.1, f.2)) u.settled was in
     let now : EachView Now (set views pass both) =
     each_set Now views pass both
@@ -276,13 +276,13 @@ merges pass v other w may came items views h at apart there =
     )
 
 -- the taker gives one of its places away
-pub gives : (pass : ℕ) (v : View) → v.takes ≡ true → 0 < v.places → Forks IsInOrder pass v (taker v.made v.taken v.settled (v.places - 1)) place
+pub gives : (pass : ℕ) (v : QueueView) → v.takes ≡ true → 0 < v.places → Forks IsInOrder pass v (taker v.made v.taken v.settled (v.places - 1)) place
 gives pass v may has items views h at =
     let reader = h.0 in let seat = h.1 in let made = h.2 in let taken = h.3 in
     let this = h.5 pass v at in
     let left = taker v.made v.taken v.settled (v.places - 1) in
-    let vs : List View = set views pass left in
-    let F : ℕ → View → Type 0 = Fits reader seat made taken (taken ++ items) in
+    let vs : List QueueView = set views pass left in
+    let F : ℕ → QueueView → Type 0 = Fits reader seat made taken (taken ++ items) in
     let old : EachView F vs = each_set F views pass left ((λ _. this.0 may), this.1, (λ e. no e)) (λ j u _ e. h.5 j u e) in
     let here : F (length vs) place = ((λ e. no e), All-nil (FitsSettled reader seat made taken (taken ++ items)), (λ e. no e)) in
     let room : HaveRoom items (vs ++ place ∷ []) = let one = places_set views pass v left at in let more = places_append vs place in let was = h.6 in omega (arith, one, more, was, has) in (
@@ -292,17 +292,17 @@ gives pass v may has items views h at =
       taken,
       h.4,
       (λ j u e. ⊎_elim (λ (x : get_elem? vs j ≡ some u). old j u x)
-          (λ (x : (j ≡ length vs) × (place ≡ u)). subst (λ (y : ℕ × View). F y.0 y.1) (λ i. (sym x.0 i, x.1 i)) here) (at_end vs place u j e)),
+          (λ (x : (j ≡ length vs) × (place ≡ u)). subst (λ (y : ℕ × QueueView). F y.0 y.1) (λ i. (sym x.0 i, x.1 i)) here) (at_end vs place u j e)),
       room,
     )
 
 -- a sender gets the places of another pass
-pub gets_back : (pass : ℕ) (v : View) (other : ℕ) (w : View) → v.sends ≡ true → Merges IsInOrder pass v other w (sender v.station v.sent (v.places + w.places)) nobody
+pub gets_back : (pass : ℕ) (v : QueueView) (other : ℕ) (w : QueueView) → v.sends ≡ true → Merges IsInOrder pass v other w (sender v.station v.sent (v.places + w.places)) nobody
 gets_back pass v other w may items views h at apart there =
     let reader = h.0 in let seat = h.1 in let made = h.2 in let taken = h.3 in
     let mine = (h.5 pass v at).2 may in
     let both = sender v.station v.sent (v.places + w.places) in
-    let F : ℕ → View → Type 0 = Fits reader seat made taken (taken ++ items) in
+    let F : ℕ → QueueView → Type 0 = Fits reader seat made taken (taken ++ items) in
     let old : EachView F (set views pass both) = each_set F views pass both ((λ e. no e), All-nil (FitsSettled reader seat made taken (taken ++ items)), (λ _. mine)) (λ j u _ e. h.5 j u e) in
     let room : HaveRoom items (set (set views pass both) other nobody) = let one = places_set views pass v both at in let two =
     places_set (set views pass both) other w nobody there in let was = h.6 in omega (arith, one, two, was) in (
@@ -316,18 +316,18 @@ gets_back pass v other w may items views h at apart there =
     )
 
 -- there is room for the places of a pass beside what the queue holds
-pub has_room : (pass : ℕ) (v : View) → Learns IsInOrder pass v (λ items. length items + v.places ≤ 64)
+pub has_room : (pass : ℕ) (v : QueueView) → Learns IsInOrder pass v (λ items. length items + v.places ≤ 64)
 has_room pass v items views h at = let few = places_at views pass v at in let was = h.6 in omega (arith, few, was)
 
-pub same_taker : (v w : View) (places : ℕ) → w ≡ taker v.made v.taken v.settled places → IsSameTaker v w
-same_taker v w places is = (ap (λ (u : View). u.takes) is, ap (λ (u : View). u.made) is, ap (λ (u : View). u.taken) is, ap (λ (u : View). u.settled) is)
+pub same_taker : (v w : QueueView) (places : ℕ) → w ≡ taker v.made v.taken v.settled places → IsSameTaker v w
+same_taker v w places is = (ap (λ (u : QueueView). u.takes) is, ap (λ (u : QueueView). u.made) is, ap (λ (u : QueueView). u.taken) is, ap (λ (u : QueueView). u.settled) is)
 
-pub totals : (pass : ℕ) (v : View) → v.takes ≡ true → Learns IsInOrder pass v (λ items. AreAllSent v.taken items v.settled)
+pub totals : (pass : ℕ) (v : QueueView) → v.takes ≡ true → Learns IsInOrder pass v (λ items. AreAllSent v.taken items v.settled)
 totals pass v may items views h at =
     let f = h.5 pass v at in
     All-weaker (FitsSettled h.0 h.1 h.2 h.3 (h.3 ++ items)) (λ s. entries_of s.station (v.taken ++ items) ≡ s.sent) (λ k g. ap (λ l. entries_of k.station (l ++ items)) (f.0 may).1 ∙ g.2) v.settled f.1
 
-pub anything : (pass : ℕ) (v : View) → Learns IsInOrder pass v (λ items. ⊤)
+pub anything : (pass : ℕ) (v : QueueView) → Learns IsInOrder pass v (λ items. ⊤)
 anything pass v items views h at = tt
 
 -- one more sender in the list of senders

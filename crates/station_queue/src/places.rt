@@ -13,11 +13,11 @@ use std::sync::Arc;
 
 /// A place of the queue: the right to have one entry there. It has no bytes.
 #[derive(Drop)]
-pub struct Place {
+pub struct Permit {
     pub(crate) pass: QueuePass,
 }
 
-impl Model for Place {
+impl Model for Permit {
     ghost use Rattle.std.specs.Prelude.{◌≡◌, []};
     ghost use Rattle.atomic_table.specs.Seated.{TableId};
     ghost use Rattle.crossbeam_queue.specs.Passes.{view as known};
@@ -33,7 +33,7 @@ impl Model for Place {
 /// All places here are of one queue.
 pub struct OfOneQueue;
 
-impl Protocol<Place, LinkedList<Place>> for OfOneQueue {
+impl Protocol<Permit, LinkedList<Permit>> for OfOneQueue {
     ghost use Rattle.std.specs.Prelude.{[]};
     ghost use Rattle.station_queue.specs.Returns.{AreOfOneQueue};
 
@@ -61,7 +61,7 @@ pub struct Halves<K> {
     of: PhantomData<K>,
 }
 
-impl<K: Whose> Split<LinkedList<Place>> for Halves<K> {
+impl<K: Whose> Split<LinkedList<Permit>> for Halves<K> {
     ghost use Rattle.std.specs.Prelude.{[], ◌∷◌};
 
     ghost left = { λ v. K.queue ∷ [] };
@@ -70,26 +70,26 @@ impl<K: Whose> Split<LinkedList<Place>> for Halves<K> {
 }
 
 /// A place is put in.
-pub struct Gives;
+pub struct PutsBack;
 
-impl Outcome<Place, LinkedList<Place>> for Gives {
+impl Outcome<Permit, LinkedList<Permit>> for PutsBack {
     ghost use Rattle.std.specs.Prelude.{◌≡◌};
 
     ghost then = { λ v x w. w ≡ v };
 }
 
 /// A place is taken out. It is of the queue that the pass knows.
-pub struct Gets;
+pub struct TakesOut;
 
-impl Outcome<Place, LinkedList<Place>> for Gets {
+impl Outcome<Permit, LinkedList<Permit>> for TakesOut {
     ghost use Rattle.std.specs.Prelude.{◌≡◌, [], ◌∷◌};
 
     ghost then = { λ v x w. (w ≡ v) × (x ∷ [] ≡ v) };
 }
 
-pub type Returns = RuledArrayQueue<Place, LinkedList<Place>, OfOneQueue>;
+pub type Returns = RuledArrayQueue<Permit, LinkedList<Permit>, OfOneQueue>;
 
-pub type ReturnPass = Pass<Place, LinkedList<Place>>;
+pub type ReturnPass = Pass<Permit, LinkedList<Permit>>;
 
 /// One of the two ends by which places come back to a station.
 #[derive(Drop)]
@@ -149,18 +149,18 @@ impl Return {
     ghost use Rattle.std.specs.Prelude.{◌≡◌, [], ◌∷◌, IfSome};
 
     /// Puts a place in. There is room for all places of a station, which no clause says: a place for which there is none is dropped.
-    pub(crate) fn give(&mut self, place: Place)
+    pub(crate) fn give(&mut self, place: Permit)
         requires { place ∷ [] ≡ self.old }
         ensures { self.new ≡ self.old }
     {
-        let _given = self.returns.try_push_as::<Gives>(&mut self.pass, place);
+        let _given = self.returns.try_push_as::<PutsBack>(&mut self.pass, place);
     }
 
     /// A place that came back, if one is there.
-    pub(crate) fn get(&mut self) -> Option<Place>
+    pub(crate) fn get(&mut self) -> Option<Permit>
         ensures same { self.new ≡ self.old }
         ensures place { IfSome result (λ p. p ∷ [] ≡ self.old) }
     {
-        self.returns.try_pop_as::<Gets>(&mut self.pass)
+        self.returns.try_pop_as::<TakesOut>(&mut self.pass)
     }
 }

@@ -11,7 +11,7 @@ pub struct Settled {
 }
 
 /// What the holder of a pass knows. No value of it is made.
-pub struct View {
+pub struct QueueView {
     /// Set for the taker's pass: how many senders it made, what it took, and the senders that came back.
     pub takes: bool,
     pub made: u64,
@@ -28,7 +28,7 @@ pub struct View {
 /// Each station's entries are taken in the order in which it sent them, each once. Each entry in the queue has a place there.
 pub struct InOrder;
 
-impl Protocol<Entry, View> for InOrder {
+impl Protocol<Entry, QueueView> for InOrder {
     ghost use Rattle.std.specs.Prelude.{[]};
     ghost use Rattle.station_queue.specs.Order.{IsInOrder, taker};
 
@@ -40,7 +40,7 @@ impl Protocol<Entry, View> for InOrder {
 /// The taker makes a sender for the next station.
 pub struct NewSender;
 
-impl Split<View> for NewSender {
+impl Split<QueueView> for NewSender {
     ghost use Rattle.std.specs.Prelude.{[], ◌+◌};
     ghost use Rattle.station_queue.specs.Order.{taker, sender};
 
@@ -52,7 +52,7 @@ impl Split<View> for NewSender {
 /// The taker takes a sender back.
 pub struct SenderBack;
 
-impl Join<View> for SenderBack {
+impl Join<QueueView> for SenderBack {
     ghost use Rattle.std.specs.Prelude.{[], ◌∷◌, ◌++◌};
     ghost use Rattle.station_queue.specs.Order.{taker, settled, nobody};
 
@@ -64,7 +64,7 @@ impl Join<View> for SenderBack {
 /// The taker gives one of its places away.
 pub struct OnePlace;
 
-impl Split<View> for OnePlace {
+impl Split<QueueView> for OnePlace {
     ghost use Rattle.std.specs.Prelude.{◌-◌};
     ghost use Rattle.station_queue.specs.Order.{taker, place};
 
@@ -76,7 +76,7 @@ impl Split<View> for OnePlace {
 /// A sender gets the places of another pass.
 pub struct PlaceBack;
 
-impl Join<View> for PlaceBack {
+impl Join<QueueView> for PlaceBack {
     ghost use Rattle.std.specs.Prelude.{◌+◌};
     ghost use Rattle.station_queue.specs.Order.{sender, nobody};
 
@@ -88,7 +88,7 @@ impl Join<View> for PlaceBack {
 /// One push. It takes one of the sender's places.
 pub struct Puts;
 
-impl Outcome<Entry, View> for Puts {
+impl Outcome<Entry, QueueView> for Puts {
     ghost use Rattle.std.specs.Prelude.{◌≡◌, ◌-◌, [], ◌∷◌, ◌++◌};
     ghost use Rattle.station_queue.specs.Order.{sender};
 
@@ -96,7 +96,7 @@ impl Outcome<Entry, View> for Puts {
 }
 
 // What it would learn of a queue that is full: there is room for its places beside what the queue holds.
-impl Lesson<Entry, View> for Puts {
+impl Lesson<Entry, QueueView> for Puts {
     ghost use Rattle.std.specs.Prelude.{◌+◌, ◌≤◌, length};
 
     ghost fact = { λ v items. length items + v.places ≤ 64 };
@@ -105,7 +105,7 @@ impl Lesson<Entry, View> for Puts {
 /// One pop. The taker gets the entry's place.
 pub struct Takes;
 
-impl Outcome<Entry, View> for Takes {
+impl Outcome<Entry, QueueView> for Takes {
     ghost use Rattle.std.specs.Prelude.{◌≡◌, ◌+◌, ◌<◌, ◌≤◌, [], ◌∷◌, ◌++◌};
     ghost use Rattle.station_queue.specs.Entries.{station_of};
     ghost use Rattle.station_queue.specs.Order.{taker};
@@ -113,7 +113,7 @@ impl Outcome<Entry, View> for Takes {
     ghost then = { λ v x w. (w ≡ taker v.made (v.taken ++ x ∷ []) v.settled (v.places + 1)) × (0 < station_of x) × (station_of x ≤ v.made) };
 }
 
-impl Lesson<Entry, View> for Takes {
+impl Lesson<Entry, QueueView> for Takes {
     ghost use Rattle.std.specs.Prelude.{⊤};
 
     ghost fact = { λ v items. ⊤ };
@@ -122,12 +122,12 @@ impl Lesson<Entry, View> for Takes {
 /// What was taken, followed by what the queue holds, is what the senders that came back have sent.
 pub struct Total;
 
-impl Lesson<Entry, View> for Total {
+impl Lesson<Entry, QueueView> for Total {
     ghost use Rattle.station_queue.specs.Order.{AreAllSent};
 
     ghost fact = { λ v items. AreAllSent v.taken items v.settled };
 }
 
-pub type Queue = RuledArrayQueue<Entry, View, InOrder>;
+pub type Queue = RuledArrayQueue<Entry, QueueView, InOrder>;
 
-pub type QueuePass = Pass<Entry, View>;
+pub type QueuePass = Pass<Entry, QueueView>;

@@ -4,7 +4,7 @@ ghost use Rattle.station_queue.specs.Entries.{station_of};
 ghost use Rattle.station_queue.specs.Order.{sender};
 
 use crate::entry::Entry;
-use crate::places::{Place, Return};
+use crate::places::{Permit, Return};
 use crate::rule::{PlaceBack, Puts, Queue, QueuePass};
 use registration::Station;
 use std::alloc::Global;
@@ -58,7 +58,7 @@ impl Sender {
 }
 
 // Waits for a place that came back.
-fn next_place<R: Wait>(rt: &R, back: &mut Return) -> Place
+fn next_place<R: Wait>(rt: &R, back: &mut Return) -> Permit
     ensures same { back.new ≡ back.old }
     ensures place { result ∷ [] ≡ back.old }
 {
@@ -72,7 +72,7 @@ fn next_place<R: Wait>(rt: &R, back: &mut Return) -> Place
 }
 
 // Puts an entry into the queue, at this place. It never finds the queue full.
-fn put<R: Wait>(rt: &R, queue: &Queue, pass: &mut QueuePass, place: Place, entry: Entry)
+fn put<R: Wait>(rt: &R, queue: &Queue, pass: &mut QueuePass, place: Permit, entry: Entry)
     requires pass { IsPassOf queue.now pass.old }
     requires capacity { ruled_capacity queue.now ≡ 64 }
     requires place { place ≡ queue.now.table.shared.table_id }
@@ -80,7 +80,7 @@ fn put<R: Wait>(rt: &R, queue: &Queue, pass: &mut QueuePass, place: Place, entry
     ensures pass { IsPassOf queue.now pass.new × (pass.new.table_id ≡ pass.old.table_id) }
     ensures view { known pass.new ≡ sender (station_of entry) ((known pass.old).sent ++ entry ∷ []) 0 }
 {
-    let Place { pass: other } = place;
+    let Permit { pass: other } = place;
     queue.absorb::<PlaceBack>(pass, other);
     match queue.push_as::<Puts, R>(rt, pass, entry) {
         Ok(()) => {}

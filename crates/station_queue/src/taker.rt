@@ -5,7 +5,7 @@ ghost use Rattle.station_queue.specs.Order.{AreAllSent, IsSameTaker, settled, ta
 ghost use Rattle.station_queue.specs.Ends.{sending, taking, with_settled};
 
 use crate::entry::Entry;
-use crate::places::{Place, Return, open_returns};
+use crate::places::{Permit, Return, open_returns};
 use crate::rule::{NewSender, OnePlace, Queue, QueuePass, SenderBack, Takes, Total};
 use crate::sender::Sender;
 use registration::Station;
@@ -134,7 +134,7 @@ fn give_one(queue: &Queue, pass: &mut QueuePass, returns: &mut Return)
     ensures returns { returns.new ≡ returns.old }
 {
     let pass = queue.another::<OnePlace>(pass);
-    returns.give(Place { pass });
+    returns.give(Permit { pass });
 }
 
 // Gives a station so many of the places that are left, or all of them.

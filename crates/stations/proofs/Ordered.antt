@@ -18,7 +18,7 @@ use Rattle.station_queue.specs.Ends.{Sending}
 use Rattle.station_queue.specs.declared.entry.Entry.{Entry}
 use Rattle.station_queue.specs.declared.entry.Entry.TheVariants.{Submitted}
 use Rattle.console.specs.Reading.{is_order}
-use Rattle.flusher.specs.Sessions.{HasOnlyRead, IsSameSession}
+use Rattle.flusher.specs.Sessions.{SessionHasOnlyRead, IsSameSession}
 use Rattle.flusher.specs.Shared.{commands_among}
 use Rattle.flusher.specs.declared.session.Session.{Session}
 use Rattle.flusher.proofs.Batched.{commands_among-append}
@@ -119,7 +119,7 @@ module _ (may_order : Bool) where
     goes_on (Some b) s t on same seen more = from_beginning b s t on same seen more
 
     -- one that only read
-    pub goes_on_reading : (b : Option Beginning) (s t : Session J) → GoesOn may_order b s → HasOnlyRead s t → GoesOn may_order b t
+    pub goes_on_reading : (b : Option Beginning) (s t : Session J) → GoesOn may_order b s → SessionHasOnlyRead s t → GoesOn may_order b t
     goes_on_reading b s t on read =
         goes_on b s t on (read_same s t read) read.seen (submits_nothing s.sender.sent t.sender.sent (ap (λ (x : Sending). x.sent) read.sender))
 

@@ -31,7 +31,7 @@ use Rattle.flusher.specs.Borne.{AreBorneOut}
 use Rattle.flusher.specs.Opened.{AreNewSessions, IsNewFlusher}
 use Rattle.flusher.specs.Order.{of_station}
 use Rattle.flusher.specs.Runs.{HasSameEnds}
-use Rattle.flusher.specs.Sessions.{view_of as session_view}
+use Rattle.flusher.specs.Sessions.{view_of_session as session_view}
 use Rattle.flusher.specs.Shared.{commands_among}
 use Rattle.flusher.specs.Since.{AreAllDurable, WasDurable}
 use Rattle.flusher.specs.Stages.{Sent}

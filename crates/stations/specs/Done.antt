@@ -15,7 +15,7 @@ use Rattle.console.specs.declared.passed.Passed.{Passed}
 use Rattle.console.specs.declared.running.Ran.{Ran}
 use Rattle.console.specs.declared.running.RunFault.{RunFault}
 use Rattle.console.specs.declared.running.RunFault.TheVariants.{NoMemory}
-use Rattle.flusher.specs.Sessions.{view_of}
+use Rattle.flusher.specs.Sessions.{view_of_session}
 use Rattle.flusher.specs.Submitted.{SessionView}
 use Rattle.stations.specs.OfSession.{of_session}
 use Rattle.stations.specs.Orders.{Submits}
@@ -45,8 +45,8 @@ module _ (J : Type 0) (base : State) where
     -- A job's session answered the lines of its port and then ended. What came of it is `done`, and `last` is the session's view after the run.
     -- If its station may give no orders, it submitted none. After the run it sent its end, and nothing else.
     pub record EndsAs (job : Job J I O) (last : SessionView) (done : Done J I O) : Type 0 where
-      pub run : IsRunOf (speaker_of job) (unread job.port.reader) (written job.port.writer) (view_of job.session) last (written done.run.writer) done.run.ran
-      pub told : IsToldOf (speaker_of job) (unread job.port.reader) (written job.port.writer) done.run.passed (view_of job.session) last (written done.run.writer) done.run.ran
+      pub run : IsRunOf (speaker_of job) (unread job.port.reader) (written job.port.writer) (view_of_session job.session) last (written done.run.writer) done.run.ran
+      pub told : IsToldOf (speaker_of job) (unread job.port.reader) (written job.port.writer) done.run.passed (view_of_session job.session) last (written done.run.writer) done.run.ran
       -- why the run ended, by the calls of its reader and its writer
       pub ends : EndsFor job.turns (reader_events done.run.passed) (writer_events done.run.passed) done.run.ran
       pub sender : done.ended.sender ≡ sending job.session.sender.queue job.session.sender.station (last.sent ++ entry.Ended job.session.sender.station ∷ [])
@@ -55,7 +55,7 @@ module _ (J : Type 0) (base : State) where
       pub seen : done.ended.viewer ≡ last.seen
       pub submits : Submits job.orders job.session.sender.sent last.sent
       -- if the run was out of memory, it left the session unchanged
-      pub memory : IsErrOf done.run.ran NoMemory → last ≡ view_of job.session
+      pub memory : IsErrOf done.run.ran NoMemory → last ≡ view_of_session job.session
 
     -- `done` came of the job, with some view of the session after its run
     abbrev pub IsDone : Job J I O → Done J I O → Type 0

@@ -20,7 +20,7 @@ use Rattle.flusher.specs.declared.answer.Answer.{Answer}
 use Rattle.flusher.specs.declared.answer.Answer.TheVariants as answer
 use Rattle.flusher.specs.declared.session.Session.{Session}
 use Rattle.flusher.specs.Submitted.{SessionView, IsSubmission}
-use Rattle.flusher.specs.Sessions.{view_of}
+use Rattle.flusher.specs.Sessions.{view_of_session}
 use Rattle.stations.specs.Orders.{is_allowed}
 
 -- the model of a session as a desk: its station, and what it has sent, received, seen and reached
@@ -42,7 +42,7 @@ word_of fault.Unready = Broken
 module _ {J : Type 0} where
   -- the model of this session as a desk
   abbrev pub at_session : Session J → AtSession
-  at_session s = record { station = s.sender.station; view = view_of s }
+  at_session s = record { station = s.sender.station; view = view_of_session s }
 
   -- the reply in an answer, or the outage word in its place
   abbrev pub result_of : Answer J → Result (Reply Global) Outage

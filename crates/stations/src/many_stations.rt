@@ -8,7 +8,7 @@ ghost use Rattle.flusher.specs.Closed.{AreSessionsOf, IsClosed};
 ghost use Rattle.flusher.specs.Opened.{AreNewSessions, IsNewFlusher, has_place};
 ghost use Rattle.flusher.specs.Runs.{HasTakenEnds};
 ghost use Rattle.flusher.specs.Served.{IsSettled};
-ghost use Rattle.flusher.specs.View.{view_of};
+ghost use Rattle.flusher.specs.View.{view_of_flusher};
 ghost use Rattle.stations.specs.Many.{CameOfServing};
 ghost use Rattle.stations.specs.Orders.{may};
 
@@ -195,11 +195,11 @@ fn store_of<J: Centre, D: Disk, R: Wait>(
     flusher: Flusher<J, D>,
     ended: Vec<Ended<J>>,
 ) -> Store<Global, D>
-    requires settled { IsSettled J.base (view_of flusher) }
-    requires sessions { AreSessionsOf (view_of flusher) ended.items }
-    requires ended { HasTakenEnds (view_of flusher) }
-    ensures store { store_view result ≡ (view_of flusher).store }
-    ensures closed { IsClosed J.base (view_of flusher) ended.items }
+    requires settled { IsSettled J.base (view_of_flusher flusher) }
+    requires sessions { AreSessionsOf (view_of_flusher flusher) ended.items }
+    requires ended { HasTakenEnds (view_of_flusher flusher) }
+    ensures store { store_view result ≡ (view_of_flusher flusher).store }
+    ensures closed { IsClosed J.base (view_of_flusher flusher) ended.items }
 {
     match close(rt, flusher, ended) {
         Ok(store) => store,
@@ -225,12 +225,12 @@ fn serve_opened<
     terms: PortTerms<'_>,
     room: RunLists<J, I, O>,
 ) -> Many<D, I, O>
-    requires settled { IsSettled J.base (view_of opened.0) }
-    requires flusher { IsNewFlusher (vec_len ports) (view_of opened.0).store (view_of opened.0) }
-    requires sound { (view_of opened.0).store.broken ≡ false }
-    requires sessions { AreNewSessions (view_of opened.0).taker.queue (view_of opened.0).senders opened.1.items }
+    requires settled { IsSettled J.base (view_of_flusher opened.0) }
+    requires flusher { IsNewFlusher (vec_len ports) (view_of_flusher opened.0).store (view_of_flusher opened.0) }
+    requires sound { (view_of_flusher opened.0).store.broken ≡ false }
+    requires sessions { AreNewSessions (view_of_flusher opened.0).taker.queue (view_of_flusher opened.0).senders opened.1.items }
     requires room { room.stations ≡ vec_len ports }
-    ensures { CameOfServing D.view J J.base terms.entry.orders terms.entry.turns I.remaining O.contents (view_of opened.0).store ports.items result }
+    ensures { CameOfServing D.view J J.base terms.entry.orders terms.entry.turns I.remaining O.contents (view_of_flusher opened.0).store ports.items result }
 {
     let (flusher, sessions) = opened;
     let RunLists {

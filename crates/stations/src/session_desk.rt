@@ -4,7 +4,7 @@ ghost use Rattle.console.specs.Reading.{is_order};
 ghost use Rattle.desk.specs.Listed.{IsListed, IsUnlisted};
 ghost use Rattle.desk.specs.Replies.{HasShortPdu};
 ghost use Rattle.desk.specs.Rules.{AreApplied};
-ghost use Rattle.flusher.specs.Sessions.{HasOnlyRead};
+ghost use Rattle.flusher.specs.Sessions.{SessionHasOnlyRead};
 ghost use Rattle.flusher.specs.Submitted.{HasShortAnswer};
 ghost use Rattle.stations.specs.Inside.Kept.{KeepsSession};
 ghost use Rattle.stations.specs.OfSession.{AtSession, Applies, Answers, accepts, at_session, is_failure, of_session, result_of, word_of};
@@ -321,7 +321,7 @@ fn read<J: Centre>(
     query: &Query,
 ) -> Result<QueryAnswer<Global>, Outage>
     ensures answers { Answers J J.base (at_session session.old) query.now result (at_session session.new) }
-    ensures session { HasOnlyRead session.old session.new }
+    ensures session { SessionHasOnlyRead session.old session.new }
 {
     match session.read(alloc, query) {
         Ok((query_answer, _)) => Ok(query_answer),

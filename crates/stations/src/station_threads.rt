@@ -2,7 +2,7 @@
 ghost use Rattle.std.specs.Prelude.{◌≡◌, ◌≤◌, [], MatchResult, vec_capacity, vec_len};
 ghost use Rattle.std.specs.List.{AllZip};
 ghost use Rattle.flusher.specs.Served.{IsSettled};
-ghost use Rattle.flusher.specs.View.{view_of};
+ghost use Rattle.flusher.specs.View.{view_of_flusher};
 ghost use Rattle.stations.specs.Done.{AreDone, IsDone};
 ghost use Rattle.stations.specs.Flushed.{HasFlushed};
 
@@ -171,9 +171,9 @@ fn serve_in<
     jobs: Vec<Job<J, I, O>>,
     room: ThreadRoom<J, I, O>,
 ) -> Vec<Done<J, I, O>>
-    requires settled { IsSettled J.base (view_of flusher.old) }
+    requires settled { IsSettled J.base (view_of_flusher flusher.old) }
     requires room { vec_len jobs ≤ room.stations }
-    ensures flushed { HasFlushed D.view J.base (view_of flusher.old) (view_of flusher.new) }
+    ensures flushed { HasFlushed D.view J.base (view_of_flusher flusher.old) (view_of_flusher flusher.new) }
     ensures done { AreDone J J.base I.remaining O.contents jobs.items result.items }
 {
     let begun = begin_all(scope, shared, jobs, room.begun);
@@ -199,9 +199,9 @@ fn serve_held<
     jobs: Vec<Job<J, I, O>>,
     room: ThreadRoom<J, I, O>,
 ) -> (DroppableFlusher<'r, R, J, D>, Vec<Done<J, I, O>>)
-    requires settled { IsSettled J.base (view_of held.flusher) }
+    requires settled { IsSettled J.base (view_of_flusher held.flusher) }
     requires room { vec_len jobs ≤ room.stations }
-    ensures flushed { HasFlushed D.view J.base (view_of held.entry.flusher) (view_of result.0.flusher) }
+    ensures flushed { HasFlushed D.view J.base (view_of_flusher held.entry.flusher) (view_of_flusher result.0.flusher) }
     ensures done { AreDone J J.base I.remaining O.contents jobs.items result.1.items }
 {
     let done = serve_in(scope, shared, &mut held.flusher, jobs, room);
@@ -224,17 +224,17 @@ pub(crate) fn serve_all<
     jobs: Vec<Job<J, I, O>>,
     room: ThreadRoom<J, I, O>,
 ) -> (DroppableFlusher<'r, R, J, D>, Vec<Done<J, I, O>>)
-    requires settled { IsSettled J.base (view_of held.flusher) }
+    requires settled { IsSettled J.base (view_of_flusher held.flusher) }
     requires room { vec_len jobs ≤ room.stations }
-    ensures flushed { HasFlushed D.view J.base (view_of held.entry.flusher) (view_of result.0.flusher) }
+    ensures flushed { HasFlushed D.view J.base (view_of_flusher held.entry.flusher) (view_of_flusher result.0.flusher) }
     ensures done { AreDone J J.base I.remaining O.contents jobs.items result.1.items }
 {
     thread::scope(
         thread::scope_env(),
         shared.rt,
         move |scope| -> (DroppableFlusher<R, J, D>, Vec<Done<J, I, O>>)
-            requires { IsSettled J.base (view_of held.flusher) × (vec_len jobs ≤ room.stations) }
-            ensures { HasFlushed D.view J.base (view_of held.entry.flusher) (view_of result.0.flusher)
+            requires { IsSettled J.base (view_of_flusher held.flusher) × (vec_len jobs ≤ room.stations) }
+            ensures { HasFlushed D.view J.base (view_of_flusher held.entry.flusher) (view_of_flusher result.0.flusher)
                 × AreDone J J.base I.remaining O.contents jobs.items result.1.items }
         { serve_held(scope, shared, held, jobs, room) },
     )

@@ -223,7 +223,7 @@ fn copies<A: Allocator, B: Allocator + Copy>(
 {
     let mut copies = Vec::with_capacity(alloc, items.len())?;
     for item in items {
-        copies.push(item.copied(alloc)?)?;
+        copies.push(item.copy(alloc)?)?;
     }
     Ok(copies)
 }

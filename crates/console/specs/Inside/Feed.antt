@@ -3,8 +3,8 @@ use Rattle.std.specs.Prelude.{◌≡◌, ℕ, ◌+◌, ◌≤◌, ◌||◌, List
 use Rattle.std.specs.List.{list_any}
 use Rattle.std.specs.Str.Lines.{lines}
 use Rattle.identity.specs.Numbers.{Byte}
-use Rattle.console.specs.declared.progress.Progress.{Progress}
-use Rattle.console.specs.declared.serving.Run.{Run}
+use Rattle.console.specs.declared.progress.LineProgress.{LineProgress}
+use Rattle.console.specs.declared.serving.LineRun.{LineRun}
 use Rattle.console.specs.declared.running.Ran.{Ran}
 use Rattle.console.specs.declared.running.Piece.{Piece}
 use Rattle.console.specs.declared.running.RunFault.{RunFault}
@@ -23,12 +23,12 @@ use Rattle.console.specs.Inside.Current.{HasNoEnd, Holds, IsGivenFor}
 -- where a run is: the speaker of its lines, how far it has come, the world of its desk, and what was written
 pub record Reached (A W : Type 0) : Type 0 where
   pub speaker : Speaker
-  pub progress : Progress A
+  pub progress : LineProgress A
   pub world : W
   pub written : Sent
 
 -- where this run is, by the world of its desk and the bytes of its writer
-abbrev pub reached_by : {A W G D World : Type 0} → (D → World) → (W → Option (List Byte)) → Run A W G D → Reached A World
+abbrev pub reached_by : {A W G D World : Type 0} → (D → World) → (W → Option (List Byte)) → LineRun A W G D → Reached A World
 reached_by world contents run = record {
   speaker = speaker_of run.terms.now;
   progress = run.progress.now;
@@ -37,7 +37,7 @@ reached_by world contents run = record {
 }
 
 -- the run is the same one: it has the same terms, and borrows the same things
-pub record IsSameRun {A W G D : Type 0} (old new : Run A W G D) : Type 0 where
+pub record IsSameRun {A W G D : Type 0} (old new : LineRun A W G D) : Type 0 where
   pub terms : new.terms ≡ old.terms
   pub progress : new.progress.ghost_name ≡ old.progress.ghost_name
   pub output : new.output.ghost_name ≡ old.output.ghost_name
@@ -113,13 +113,13 @@ module _ {A W : Type 0} (rules : Rules A W) (old : Reached A W) where
 
 module _ {A : Type 0} where
   -- the line is counted, with the trouble in its answer, and the next line begins
-  abbrev pub IsCounted : Progress A → Answer A → Progress A → Type 0
-  IsCounted old given new =
+  abbrev pub CountsAnswer : LineProgress A → Answer A → LineProgress A → Type 0
+  CountsAnswer old given new =
       (new.lines ≡ old.lines + 1) × (new.troubled ≡ (old.troubled || is_trouble given)) × Holds new.current.bytes.items new.current.long []
 
   -- the answer, or `memory` in place of a list, is given, written and counted
-  abbrev pub Sends : Progress A → Sent → Answer A → Progress A → Sent → Type 0
-  Sends old held answer new now = (given : Answer A) × IsGivenFor (old.lines + 1) answer given × Passes held now [] (text given) [] × IsCounted old given new
+  abbrev pub Sends : LineProgress A → Sent → Answer A → LineProgress A → Sent → Type 0
+  Sends old held answer new now = (given : Answer A) × IsGivenFor (old.lines + 1) answer given × Passes held now [] (text given) [] × CountsAnswer old given new
 
   -- The answer, or `memory` in place of a list, is given, and `left` is not written: the rest of its text. `count` lines came before.
   abbrev pub SendsPart : ℕ → Sent → Answer A → Sent → Type 0

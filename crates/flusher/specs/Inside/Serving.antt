@@ -21,7 +21,7 @@ use Rattle.flusher.specs.Batches.{HasBroken, accepted_by}
 use Rattle.flusher.specs.Served.{HasServed, HavePublished}
 use Rattle.flusher.specs.View.{durable_of, progress, progress_by}
 use Rattle.flusher.specs.Inside.Publishing.{IsCaughtUp}
-use Rattle.flusher.specs.declared.batch.Room.{Room}
+use Rattle.flusher.specs.declared.batch.BatchBuffers.{BatchBuffers}
 use Rattle.flusher.specs.declared.committing.Committer.{Committer}
 use Rattle.flusher.specs.declared.publishing.Publication.{Publication}
 use Rattle.flusher.specs.declared.publishing.Shown.{Shown}
@@ -61,7 +61,7 @@ module _ {J D : Type 0} {g : Ghosts D} where
     pub made : c.store.register ≡ after base (durable_of p)
     pub sound : c.store.broken ≡ false
 
-  module _ (p : Publication J) (c : Committer D g) (q : Publication J) (d : Committer D g) (room : Room) where
+  module _ (p : Publication J) (c : Committer D g) (q : Publication J) (d : Committer D g) (room : BatchBuffers) where
     -- What is published is a prefix of what is durable. A sound store's register is what the durable commands make. If the disk failed in
     -- the commit, nothing became durable.
     pub record IsAfterCommit (base : State) : Type 0 where

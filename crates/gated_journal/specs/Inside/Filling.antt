@@ -8,7 +8,7 @@ use Rattle.sector_disk.specs.declared.record.Call.{Call}
 use Rattle.gated_journal.specs.Calls.{settled_both_calls}
 use Rattle.gated_journal.specs.Record.{data_sector}
 use Rattle.gated_journal.specs.Twice.{IsTornTwiceImage}
-use Rattle.gated_journal.specs.declared.both.Run.{Run}
+use Rattle.gated_journal.specs.declared.both.SectorRun.{SectorRun}
 
 -- Two runs of writes: n sectors from `at` on with the bytes of `bytes`, and then m sectors from `to` on with those of `more`.
 -- A stop may leave anything in these sectors, and in all others what it could leave before. At `Ok` these sectors read as the bytes.
@@ -28,9 +28,9 @@ IsPadded text padded = (k : ℕ) → data_sector padded k ≡ data_sector text k
 
 -- The runs x and y are written, x first, and do to the disk what `HasFilledTwice` states. A run writes the first `sectors` sectors
 -- of its text, from the disk's sector `at` on.
-abbrev pub AreFilled : View → View → Run → Run → Result Unit DiskError → Type 0
+abbrev pub AreFilled : View → View → SectorRun → SectorRun → Result Unit DiskError → Type 0
 AreFilled old new x y result = HasFilledTwice old new x.at x.sectors (data_sector x.text.now) y.at y.sectors (data_sector y.text.now) result
 
 -- the sectors of x are written, then those of y, and both are synced
-abbrev pub both_calls : Run → Run → List Call
+abbrev pub both_calls : SectorRun → SectorRun → List Call
 both_calls x y = settled_both_calls x.at x.sectors x.text.now y.at y.sectors y.text.now

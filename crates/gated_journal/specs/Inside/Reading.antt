@@ -7,23 +7,23 @@ use Rattle.sector_disk.specs.Numbers.{Sector}
 use Rattle.gated_journal.specs.Half.{bytes_at, data_from}
 use Rattle.gated_journal.specs.Inside.Room.{capacity}
 use Rattle.gated_journal.specs.Reading.{Answers}
-use Rattle.gated_journal.specs.Record.{most_commands, most_sectors}
-use Rattle.gated_journal.specs.Settled.{IsCounted}
+use Rattle.gated_journal.specs.Record.{most_commands, most_data_sectors}
+use Rattle.gated_journal.specs.Settled.{HasNumbersLeft}
 use Rattle.gated_journal.specs.declared.fault.JournalError.{JournalError}
 use Rattle.gated_journal.specs.declared.fault.JournalError.TheVariants.{DiskFault}
 use Rattle.gated_journal.specs.declared.place.Place.{Place}
 
 -- What a read from the next gate of a place on requires. The gate is before the half's end, and that end is within the disk. The
--- numbers of the commands fit 8 bytes (`IsCounted`). The buffer, if it is emptied, has room for the greatest record.
+-- numbers of the commands fit 8 bytes (`HasNumbersLeft`). The buffer, if it is emptied, has room for the greatest record.
 pub record IsToRead (disk : View) (place : Place) (buffer : Filled) : Type 0 where
   pub before : place.next < place.end
   pub within : place.end ≤ disk.sectors
-  pub counts : IsCounted place
-  pub room : 512 * most_sectors ≤ capacity buffer
+  pub counts : HasNumbersLeft place
+  pub room : 512 * most_data_sectors ≤ capacity buffer
 
 -- A read through a buffer, which is `after` at the end. The disk is only read. `IsRight` is what the caller's contract states of
 -- the result, and holds if the disk is honest. The buffer has at least its old capacity.
-pub record Reads {X : Type 0} (old new : View) (buffer after : Filled) (result : Result X JournalError) (IsRight : Type 0) : Type 0 where
+pub record ReadsInto {X : Type 0} (old new : View) (buffer after : Filled) (result : Result X JournalError) (IsRight : Type 0) : Type 0 where
   pub reads : OnlyReads old new (IsErrOf result DiskFault)
   pub exact : old.honest → IsRight
   pub capacity : capacity buffer ≤ capacity after

@@ -18,8 +18,8 @@ use Rattle.mailbox.specs.Order.{named, named_cmp, next_item, next_due}
 use Rattle.centre_core.specs.State.{State}
 use Rattle.listings.specs.declared.listing.Table.{Table}
 use Rattle.listings.specs.declared.listing.Table.TheVariants as table
-use Rattle.listings.specs.declared.walk.Place.{Place}
-use Rattle.listings.specs.declared.walk.Place.TheVariants as place
+use Rattle.listings.specs.declared.walk.TablePlace.{TablePlace}
+use Rattle.listings.specs.declared.walk.TablePlace.TheVariants as place
 use Rattle.listings.specs.declared.walk.Entry.{Entry as BorrowedEntry}
 use Rattle.listings.specs.declared.walk.Entry.TheVariants as borrowed
 use Rattle.listings.specs.Entries.{Entry, RuleEntry, RadioEntry, ItemEntry, is_under, rule_entry, radio_entry, waits_at}
@@ -31,7 +31,7 @@ entry_of (borrowed.Radio itsi radio) = RadioEntry itsi radio
 entry_of (borrowed.Item item) = ItemEntry item.now
 
 -- where an entry is in its table
-abbrev pub place_of : Entry → Place
+abbrev pub place_of : Entry → TablePlace
 place_of (RuleEntry prefix rule) = place.Rule prefix
 place_of (RadioEntry itsi radio) = place.Radio itsi
 place_of (ItemEntry w) = place.Item w.number w.key
@@ -63,7 +63,7 @@ abbrev pub next_waiting : State → Station → Option (Number × Key) → Optio
 next_waiting s station after = waiting_from s.registered s.mail station after
 
 -- the first entry of a table after a place, or the first of all; none after a place of another table
-abbrev pub entry_after : State → Table → Option Place → Option Entry
+abbrev pub entry_after : State → Table → Option TablePlace → Option Entry
 entry_after s table.Rules None = option_map rule_entry (next_entry s.registered.rules None)
 entry_after s table.Rules (Some (place.Rule prefix)) = option_map rule_entry (next_entry s.registered.rules (Some prefix))
 entry_after s (table.Radios prefix) None = option_map radio_entry (radio_after s.registered prefix None)

@@ -7,7 +7,7 @@ use Rattle.identity.specs.Path.{Path, path_cmp, id_path}
 use Rattle.prefix_tree.specs.Table.{PathMap}
 use Rattle.mailbox.specs.Numbers.{Number}
 use Rattle.mailbox.specs.declared.key.Key.{Key}
-use Rattle.mailbox.specs.declared.place.Place.{Place}
+use Rattle.mailbox.specs.declared.place.ItemPlace.{ItemPlace}
 use Rattle.mailbox.specs.Values.{Item}
 use Rattle.mailbox.specs.Item.{same_key, is_at}
 use Rattle.mailbox.specs.Order.{IsBefore, place_of}
@@ -56,11 +56,11 @@ abbrev pub is_filed : Boxes → Key → Bool
 is_filed boxes k = list_any (is_at k) (items_under boxes (id_path k.destination))
 
 -- the number and the key of a place
-abbrev pub name_of : Place → Number × Key
+abbrev pub name_of : ItemPlace → Number × Key
 name_of p = (p.number, p.key)
 
 -- the items in the index's order
-abbrev pub in_order : Boxes → List Place → List Item
+abbrev pub in_order : Boxes → List ItemPlace → List Item
 in_order boxes order = filter_map (λ place. item_at boxes place.key) order
 
 -- the item's destination has this path
@@ -69,7 +69,7 @@ is_under p w = eq_by_cmp path_cmp p (id_path w.key.destination)
 
 -- The boxes and the index store these items: each destination's box has its items, and the index has the place of each item. The
 -- items are in order of number, then of key. No two have the same key, and each destination is the number of an identity.
-pub record AreFiled (ws : List Item) (boxes : Boxes) (order : List Place) : Type 0 where
+pub record AreFiled (ws : List Item) (boxes : Boxes) (order : List ItemPlace) : Type 0 where
   pub boxed : (p : Path) → finite.get boxes p ≡ box_of (filter (is_under p) ws)
   pub indexed : order ≡ map place_of ws
   pub ordered : AllPairs IsBefore ws

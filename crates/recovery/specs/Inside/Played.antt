@@ -3,8 +3,8 @@ use Rattle.std.specs.Prelude.{◌≡◌, ◌⊎◌, ◌<◌, ◌≤◌, Bool, Li
 use Rattle.sector_disk.specs.Disk.{View}
 use Rattle.centre_core.specs.State.{State}
 use Rattle.gated_journal.specs.declared.place.Place.{Place}
-use Rattle.gated_journal.specs.Half.{Entry, Half, with_prefix}
-use Rattle.gated_journal.specs.Settled.{IsCounted, half_in}
+use Rattle.gated_journal.specs.Half.{RecordAt, Half, with_prefix}
+use Rattle.gated_journal.specs.Settled.{HasNumbersLeft, half_in}
 use Rattle.recovery.specs.declared.fault.StoreFault.{StoreFault}
 use Rattle.recovery.specs.Opening.{EndsAt, Fails, NeedsMemory, PlaysOn, Stops, StopsAt, rest_in}
 use Rattle.recovery.specs.Opens.{Reached, held_by, played, played_from}
@@ -13,7 +13,7 @@ use Rattle.recovery.specs.Opens.{Reached, held_by, played, played_from}
 pub record IsReadable (journal : Place) (disk : View) : Type 0 where
   pub before : journal.next < journal.end
   pub within : journal.end ≤ disk.sectors
-  pub room : IsCounted journal
+  pub room : HasNumbersLeft journal
 
 -- The new journal is of the half and form of the old one, and its next gate is in that half.
 pub record MovesWithin (old new : Place) : Type 0 where
@@ -21,7 +21,7 @@ pub record MovesWithin (old new : Place) : Type 0 where
   pub end : new.end ≡ old.end
   pub next : new.next < old.end
   pub form : new.form ≡ old.form
-  pub room : IsCounted new
+  pub room : HasNumbersLeft new
 
 -- The new journal is within the old one's half (`MovesWithin`), and the states s and t have the same limits.
 pub record PlaysWithin (old new : Place) (s t : State) : Type 0 where
@@ -31,14 +31,14 @@ pub record PlaysWithin (old new : Place) (s t : State) : Type 0 where
 module _ {A : Type 0} where
   -- half is some records, which are played from s to t, and then rest
   abbrev pub HasPlayed : State → State → Half A → Half A → Type 0
-  HasPlayed s t half rest = (entries : List (Entry A)) × (half ≡ with_prefix entries rest) × (played s entries ≡ Ok t)
+  HasPlayed s t half rest = (entries : List (RecordAt A)) × (half ≡ with_prefix entries rest) × (played s entries ≡ Ok t)
 
   -- Half is some records that are played from s on, then one that memory ran out for, and then more. Either that one could not
   -- be read: then `Again` holds, rest begins with it, and none of its commands is applied. Or its commands up to t are applied,
   -- the next one needs memory, and rest is what comes after the record.
   pub record RunsShort (s t : State) (half rest : Half A) (Again : Type 0) : Type 0 where
-    pub done : List (Entry A)
-    pub next : Entry A
+    pub done : List (RecordAt A)
+    pub next : RecordAt A
     pub after : Half A
     pub state : State
     pub all : half ≡ with_prefix (done ++ next ∷ []) after

@@ -34,15 +34,15 @@ IsOfSector sectors EpochsUsedUp = ⊥
 IsOfSector sectors Unready = ⊥
 
 -- a fault of reading rows or records, all of which are in so many sectors
-abbrev pub IsOfReading : Sectors → StoreFault → Type 0
-IsOfReading sectors Unformatted = ⊥
-IsOfReading sectors BadGeometry = ⊥
-IsOfReading sectors (Damaged at) = at < sectors
-IsOfReading sectors DiskFault = Unit {0}
-IsOfReading sectors Broken = ⊥
-IsOfReading sectors NoMemory = Unit {0}
-IsOfReading sectors EpochsUsedUp = ⊥
-IsOfReading sectors Unready = ⊥
+abbrev pub IsOfRowsOrRecords : Sectors → StoreFault → Type 0
+IsOfRowsOrRecords sectors Unformatted = ⊥
+IsOfRowsOrRecords sectors BadGeometry = ⊥
+IsOfRowsOrRecords sectors (Damaged at) = at < sectors
+IsOfRowsOrRecords sectors DiskFault = Unit {0}
+IsOfRowsOrRecords sectors Broken = ⊥
+IsOfRowsOrRecords sectors NoMemory = Unit {0}
+IsOfRowsOrRecords sectors EpochsUsedUp = ⊥
+IsOfRowsOrRecords sectors Unready = ⊥
 
 -- why the commands of the record in this sector are not played
 abbrev pub IsOfRecord : Sector → StoreFault → Type 0

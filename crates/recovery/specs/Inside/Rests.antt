@@ -18,11 +18,11 @@ use Rattle.recovery.specs.declared.rest_rows.Slot.{Slot}
 use Rattle.recovery.specs.declared.stated.Stated.{Stated}
 use Rattle.recovery.specs.Damage.{fault_at}
 use Rattle.recovery.specs.Label.{layout_in}
-use Rattle.recovery.specs.Rests.{AreLater, AreLaterIn, AreLaterOf, AreReadable, AreReadableAt, HasHeader, IsGreaterSide, IsLeft, Kept, LeadsTo, NothingIsLeft}
+use Rattle.recovery.specs.Rests.{AreLater, AreLaterIn, AreLaterOf, AreReadable, AreReadableAt, HasHeader, IsGreaterSide, IsLeft, KeptRows, LeadsTo, NothingIsLeft}
 use Rattle.recovery.specs.Rests.{gate_after, kept_under, kept_with, left_in, rows_kept, rows_stated, unless_wrong, without_rows}
 
 -- what a loader has made of the rows so far, and how many of each kind it has taken
-abbrev pub kept_of : Loading → Header → Kept
+abbrev pub kept_of : Loading → Header → KeptRows
 kept_of l h = record { loading = l; rows = h }
 
 -- a header states no more rows than this of any kind
@@ -38,15 +38,15 @@ taken_at h place bytes loading = unless_wrong (fault_at h place (row_in bytes)) 
 
 module _ (slot : Slot) (image : List (List Byte)) where
   -- the rows that are kept, with the one at this place
-  abbrev pub kept_at : ℕ → Kept → Kept
+  abbrev pub kept_at : ℕ → KeptRows → KeptRows
   kept_at place kept = kept_with slot.stated place (sector image (slot.first + place)) kept
 
   -- the rows of the slot that are kept after what is loaded
-  abbrev pub kept_after : Loading → Kept
+  abbrev pub kept_after : Loading → KeptRows
   kept_after loading = rows_kept image slot.first slot.stated (kept_of loading (without_rows slot.stated)) (rows_stated slot.stated)
 
   -- the rows of the slot that are kept if its header is this one
-  abbrev pub kept_by_header : Header → Kept
+  abbrev pub kept_by_header : Header → KeptRows
   kept_by_header h = kept_under slot.limits image slot.first slot.stated h
 
   -- the register that is left of the rows, and the header that states as many as are kept

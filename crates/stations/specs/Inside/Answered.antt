@@ -7,7 +7,7 @@ use Rattle.console.specs.declared.passed.Passed.{Passed}
 use Rattle.console.specs.declared.running.Ran.{Ran}
 use Rattle.console.specs.declared.running.RunFault.{RunFault}
 use Rattle.console.specs.declared.running.RunFault.TheVariants.{NoMemory}
-use Rattle.flusher.specs.Sessions.{view_of}
+use Rattle.flusher.specs.Sessions.{view_of_session}
 use Rattle.flusher.specs.declared.session.Session.{Session}
 use Rattle.stations.specs.Done.{IsRunOf, IsToldOf}
 use Rattle.stations.specs.GoesOn.{GoesOnFrom, beginning_of}
@@ -19,9 +19,9 @@ module _ {J : Type 0} (base : State) where
   -- left. The writer held `before`, and holds `after`. The result is the session after the run, how the run ended, and what passed in it.
   pub record AnswersLines {I O : Type 0} (orders : Bool) (turns : ℕ) (unread before after : Option (List Byte)) (session : Session J)
       (result : Session J × Result Ran RunFault × Passed I O) : Type 0 where
-    pub answers : IsRunOf J base (record { station = session.sender.station; orders = orders }) unread before (view_of session) (view_of result.0) after result.1
+    pub answers : IsRunOf J base (record { station = session.sender.station; orders = orders }) unread before (view_of_session session) (view_of_session result.0) after result.1
     -- over any reader and any writer
-    pub told : IsToldOf J base (record { station = session.sender.station; orders = orders }) unread before result.2 (view_of session) (view_of result.0) after result.1
+    pub told : IsToldOf J base (record { station = session.sender.station; orders = orders }) unread before result.2 (view_of_session session) (view_of_session result.0) after result.1
     -- why it ended, by the calls of the reader and the writer
     pub ends : EndsFor turns (reader_events result.2) (writer_events result.2) result.1
     -- the session that comes back

@@ -6,7 +6,7 @@ use Rattle.centre_core.specs.State.{State}
 use Rattle.listings.specs.declared.listing.Listing.{Listing}
 use Rattle.desk.specs.Listed.{IsListed, IsUnlisted}
 use Rattle.desk.specs.declared.outage.Outage.{Outage}
-use Rattle.flusher.specs.Sessions.{HasOnlyRead}
+use Rattle.flusher.specs.Sessions.{SessionHasOnlyRead}
 use Rattle.flusher.specs.declared.session.Session.{Session}
 use Rattle.stations.specs.OfSession.{at_session, of_session}
 
@@ -19,4 +19,4 @@ pub record AddsListing {J : Type 0} (base : State) (may_order : Bool) (listing :
       IsUnlisted (of_session J base may_order) (at_session old) listing (vec_len text) (vec_capacity text) word (at_session new))
   pub kept : OnErr result (more.items ≡ text.items)
   pub capacity : vec_capacity text ≤ vec_capacity more
-  pub session : HasOnlyRead old new
+  pub session : SessionHasOnlyRead old new

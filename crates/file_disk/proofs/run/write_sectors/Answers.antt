@@ -17,7 +17,7 @@ returns-then-written-bytes-clause-effect g c within honest =
     let n = sectors_in c.args.bytes.now in
     let several : 1 < n = omega (arith, c.if-bytes-le512.false, c.requires.whole) in
     run_done (g.F.SectorFile.view c.args.file.now) (g.F.SectorFile.view c.write_at.new.self) c.args.at n c.args.bytes.now _ c.in_ok-written.written
-    (c.write_at.ensures.sectors c.args.at n refl several c.requires.whole within honest) (sym c.moved.ensures ∙ c.in_ok-written.was)
+    (c.write_at.ensures.sectors c.args.at n refl several c.requires.whole within honest) (sym c.bytes_moved.ensures ∙ c.in_ok-written.was)
     (c.if-written-bytes.true ∙ c.requires.whole)
 
 pub returns-clause-effect : goal.returns-clause-effect

@@ -15,7 +15,7 @@ pub returns-then-written-zeros-clause-effect : goal.returns-then-written-zeros-c
 returns-then-written-zeros-clause-effect g c within honest =
     let long : length c.args.zeros.now ≡ 512 * 128 = ap length c.requires.zeros ∙ length-replicate {A = ℕ} 65536 0 in
     piece_done (g.F.SectorFile.view c.args.file.now) (g.F.SectorFile.view c.write_at.new.self) c.args.at c.args.zeros.now _ c.in_ok-written.written c.requires.zeros
-    (c.write_at.ensures.sectors c.args.at 128 refl (omega arith) long within honest) (sym c.moved.ensures ∙ c.in_ok-written.was) (c.if-written-zeros.true ∙ long)
+    (c.write_at.ensures.sectors c.args.at 128 refl (omega arith) long within honest) (sym c.bytes_moved.ensures ∙ c.in_ok-written.was) (c.if-written-zeros.true ∙ long)
 
 pub returns-clause-effect : goal.returns-clause-effect
 returns-clause-effect g c within honest =

@@ -20,8 +20,8 @@ use Rattle.flusher.proofs.serving.commit_and_answer.Goals as goal
 pub commit_batch-requires-clause-sound : goal.commit_batch-requires-clause-sound
 commit_batch-requires-clause-sound g c = c.requires.ready.sound
 
-pub keep-requires-clause-empty : goal.keep-requires-clause-empty
-keep-requires-clause-empty g c = c.requires.ready.caught_up.1
+pub queue_accepted-requires-clause-empty : goal.queue_accepted-requires-clause-empty
+queue_accepted-requires-clause-empty g c = c.requires.ready.caught_up.1
 
 pub publish_and_answer-requires-clause-committed : goal.publish_and_answer-requires-clause-committed
 publish_and_answer-requires-clause-committed g c =
@@ -31,13 +31,13 @@ publish_and_answer-requires-clause-committed g c =
     let log = old.publisher.appended ++ commands_in old.unpublished.items in
     let cmds = commands_in c.args.room.now.batch.items in
     let all = all_appended old.publisher.appended old.unpublished.items ready.caught_up.1 in
-    let kept = c.keep.ensures.kept ∙ (λ j. accepted_by (c.args.room.now.same j) (c.as_slice.ensures.value j)) in
+    let kept = c.queue_accepted.ensures.kept ∙ (λ j. accepted_by (c.args.room.now.same j) (c.as_slice.ensures.value j)) in
     record {
-      level = ap (λ p. p.published) c.keep.ensures.publisher ∙ ready.caught_up.0 ∙ ap (λ p. p.appended) (sym c.keep.ensures.publisher);
-      history = subst (IsHistory base) (all ∙ ap (λ p. p.appended) (sym c.keep.ensures.publisher)) ready.history;
+      level = ap (λ p. p.published) c.queue_accepted.ensures.publisher ∙ ready.caught_up.0 ∙ ap (λ p. p.appended) (sym c.queue_accepted.ensures.publisher);
+      history = subst (IsHistory base) (all ∙ ap (λ p. p.appended) (sym c.queue_accepted.ensures.publisher)) ready.history;
       answered = answered_on base (store_view c.args.committer.now.store) (store_view c.commit_batch.new.committer.store) log cmds c.in-Ok.outcomes.items
           ready.history ready.made c.in-Ok.ensures.committed.0
-          _ _ (ap (λ p. p.appended) c.keep.ensures.publisher ∙ sym all) kept;
+          _ _ (ap (λ p. p.appended) c.queue_accepted.ensures.publisher ∙ sym all) kept;
       short = c.in-Ok.ensures.short;
       kept = kept;
     }
@@ -50,10 +50,10 @@ returns-in-Ok-clause-served g c seen =
     let log = old.publisher.appended ++ commands_in old.unpublished.items in
     let cmds = commands_in c.args.room.now.batch.items in
     let os = c.in-Ok.outcomes.items in
-    let same : c.keep.new.self.publisher.appended ≡ log = ap (λ p. p.appended) c.keep.ensures.publisher ∙ sym
+    let same : c.queue_accepted.new.self.publisher.appended ≡ log = ap (λ p. p.appended) c.queue_accepted.ensures.publisher ∙ sym
     (all_appended old.publisher.appended old.unpublished.items c.requires.ready.caught_up.1) in
     let is : new.publisher.appended ++ commands_in new.unpublished.items ≡ log ++ accepted_by cmds os = c.publish_and_answer.ensures.durable ∙
-    (λ j. same j ++ (c.keep.ensures.kept ∙ (λ j. accepted_by (c.args.room.now.same j) (c.as_slice.ensures.value j))) j) in
+    (λ j. same j ++ (c.queue_accepted.ensures.kept ∙ (λ j. accepted_by (c.args.room.now.same j) (c.as_slice.ensures.value j))) j) in
     let small = subst (λ n. n ≤ 64) (sym (length-commands_in c.args.room.now.batch.items)) c.args.room.now.few in
     served_on base (g.D.Disk.view c.commit_batch.new.committer.store.disk).moment (store_view c.args.committer.now.store)
     (store_view c.commit_batch.new.committer.store) (tries c.args.committer.now.attempts old.publisher.refusals)
@@ -63,7 +63,7 @@ returns-in-Ok-clause-served g c seen =
     c.in-Ok.ensures.committed.1 is
     (subst (λ (q : ℕ × ℕ × List (Asked Global)). HavePublished q.0 q.1 new.publisher.refusals q.2 (new.publisher.appended ++ commands_in new.unpublished.items)
     new.publisher.published cmds os c.args.senders.now.items c.publish_and_answer.new.senders.items)
-    (λ j. (c.moment-moment.ensures j, (c.keep.ensures.publisher j).refusals, same j)) c.publish_and_answer.ensures.published)
+    (λ j. (c.moment-moment.ensures j, (c.queue_accepted.ensures.publisher j).refusals, same j)) c.publish_and_answer.ensures.published)
 
 pub returns-in-Ok-clause-durable : goal.returns-in-Ok-clause-durable
 returns-in-Ok-clause-durable g c =
@@ -78,14 +78,14 @@ returns-in-Ok-clause-durable g c =
     let history = c.requires.ready.history in
     let made = c.requires.ready.made in
     let done = c.in-Ok.ensures.committed.0 in
-    let same : c.keep.new.self.publisher.appended ≡ log = ap (λ p. p.appended) c.keep.ensures.publisher ∙ sym
+    let same : c.queue_accepted.new.self.publisher.appended ≡ log = ap (λ p. p.appended) c.queue_accepted.ensures.publisher ∙ sym
     (all_appended old.publisher.appended old.unpublished.items c.requires.ready.caught_up.1) in
     let is : new.publisher.appended ++ commands_in new.unpublished.items ≡ log ++ accepted_by cmds os = c.publish_and_answer.ensures.durable ∙
-    (λ j. same j ++ (c.keep.ensures.kept ∙ (λ j. accepted_by (c.args.room.now.same j) (c.as_slice.ensures.value j))) j) in
+    (λ j. same j ++ (c.queue_accepted.ensures.kept ∙ (λ j. accepted_by (c.args.room.now.same j) (c.as_slice.ensures.value j))) j) in
     record {
-      prefix = published_begins c.moment-moment.result.tick c.keep.new.self.publisher.refusals new.publisher.refusals c.keep.new.self.publisher.appended
+      prefix = published_begins c.moment-moment.result.tick c.queue_accepted.new.self.publisher.refusals new.publisher.refusals c.queue_accepted.new.self.publisher.appended
           (new.publisher.appended ++ commands_in new.unpublished.items) new.publisher.published cmds
-          (commands_in c.keep.new.self.unpublished.items) os c.args.senders.now.items c.publish_and_answer.new.senders.items
+          (commands_in c.queue_accepted.new.self.unpublished.items) os c.args.senders.now.items c.publish_and_answer.new.senders.items
           c.publish_and_answer.ensures.durable c.publish_and_answer.ensures.published;
       history = subst (IsHistory base) (sym is) (history_on base was now log cmds os history made done);
       made = λ up. made_on base was now log cmds os history made done ∙ ap (after base) (sym is);

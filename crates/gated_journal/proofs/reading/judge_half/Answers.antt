@@ -1,14 +1,14 @@
 use Rattle.std.proofs.Common.{◌≡◌, ℕ, ◌+◌, List, ◌∷◌, [], ◌++◌, Ok, refl, ap, sym, ◌∙◌, arith}
 use Rattle.std.proofs.lemmas.Result.{err_from_is_err_and}
 use Rattle.sector_disk.specs.Disk.{View}
-use Rattle.gated_journal.specs.Half.{Entry, Half, half_of}
+use Rattle.gated_journal.specs.Half.{RecordAt, Half, half_of}
 use Rattle.gated_journal.specs.declared.place.Place.{Place}
 use Rattle.sector_disk.proofs.Effects.{reads_on}
 use Rattle.gated_journal.proofs.Halves.{error_on, prefix_closed, prefix_more, prefix_none}
 use Rattle.gated_journal.proofs.Kept.{err_as, reads_none}
 use Rattle.gated_journal.proofs.reading.judge_half.Goals as goal
 
-gate_is : {A : Type 0} (held : List (Entry A) × ℕ) (entries : List (Entry A)) (gate : ℕ) → ◌≡◌ {A = Half A} (Ok held) (Ok (entries, gate)) → held.1 ≡ gate
+gate_is : {A : Type 0} (held : List (RecordAt A) × ℕ) (entries : List (RecordAt A)) (gate : ℕ) → ◌≡◌ {A = Half A} (Ok held) (Ok (entries, gate)) → held.1 ≡ gate
 gate_is held entries gate is = let same : held ≡ (entries, gate) = cc in ap (λ x. x.1) same
 
 pub loop-count-init : goal.loop-count-init

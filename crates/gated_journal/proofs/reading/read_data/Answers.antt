@@ -5,7 +5,7 @@ use Rattle.sector_disk.specs.Effects.{OnlyReads}
 use Rattle.sector_disk.specs.declared.record.Call.TheVariants.{Read}
 use Rattle.sector_disk.proofs.Effects.{reads_on}
 use Rattle.gated_journal.specs.Half.{stated_size, data_from}
-use Rattle.gated_journal.specs.Record.{most_sectors}
+use Rattle.gated_journal.specs.Record.{most_data_sectors}
 use Rattle.gated_journal.specs.declared.form.Form.{Form}
 use Rattle.gated_journal.specs.declared.form.Form.TheVariants.{Numbered, Plain}
 use Rattle.gated_journal.proofs.Kept.{one_call, reads_one, reads_where}
@@ -183,7 +183,7 @@ returns-clause-reads g c =
     ap (stated_size form) here ∙ sym c.stated_size-size.ensures in
     let third = c.in_ok-read_sectors.ensures in
     let within : c.args.place.now.next + 1 + size < c.args.place.now.end = omega (arith, lt, c.if-place-at.false) in
-    let few : size ≤ most_sectors = omega (arith, c.if-size-gt-MOST_SECTORS.false) in
+    let few : size ≤ most_data_sectors = omega (arith, c.if-size-gt-MOST_SECTORS.false) in
     record {
       reads = reads_on old new _ both third.reads (λ e. absurd cc);
       exact = λ honest.

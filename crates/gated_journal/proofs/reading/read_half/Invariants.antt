@@ -3,7 +3,7 @@ use Rattle.sector_disk.specs.Disk.{View}
 use Rattle.sector_disk.specs.Effects.{OnlyReads}
 use Rattle.gated_journal.specs.Half.{counted, half_of, with_prefix}
 use Rattle.gated_journal.specs.Reading.{entries_view}
-use Rattle.gated_journal.specs.Settled.{IsCounted}
+use Rattle.gated_journal.specs.Settled.{HasNumbersLeft}
 use Rattle.gated_journal.specs.Inside.Room.{capacity}
 use Rattle.gated_journal.proofs.reading.read_half.Given as goal
 
@@ -17,7 +17,7 @@ invariant-loop-entries g l =
       form : l.rest.form ≡ l.place.form;
       up : l.place.next ≤ l.rest.next;
       within : l.rest.next < l.rest.end;
-      counts : IsCounted l.rest;
+      counts : HasNumbersLeft l.rest;
       counted : l.rest.count ≡ counted l.place.count (entries_view l.entries.items);
       capacity : capacity l.initial.buffer ≤ capacity l.buffer;
       reads : OnlyReads old now ⊥;

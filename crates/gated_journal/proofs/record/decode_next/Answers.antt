@@ -11,4 +11,4 @@ returns-in-Some-clause-few g c =
     (record { count = c.in-Some.packed.count; first = c.in-Some.packed.first; bytes = c.in-Some.packed.commands.now }) =
     rw c.in-Some.is at (sym c.packed_of.ensures) in
     let few : c.in-Some.packed.count ≤ most_commands = packed_few c.args.form c.args.bytes.now _ found in
-    IfOk-weaker c.whole.result _ _ (λ found exact. few_in c.in-Some.packed.count c.in-Some.packed.commands.now found few exact) c.whole.ensures.exact
+    IfOk-weaker c.decode_all.result _ _ (λ found exact. few_in c.in-Some.packed.count c.in-Some.packed.commands.now found few exact) c.decode_all.ensures.exact

@@ -16,5 +16,5 @@ is_free-requires g c =
 pub returns : goal.returns
 returns g c =
     let before : before_place c.args.header.now c.args.parts.now c.args.item.now ≡ true = search rules in
-    may_by_place c.args.header.now c.args.parts.now c.args.item.now c.is_free.result before c.hold_known.ensures
+    may_by_place c.args.header.now c.args.parts.now c.args.item.now c.is_free.result before c.facts_of_known.ensures
     (c.is_free.ensures ∙ (λ i. not (holds (c.parts.view_is i).mail (c.key.ensures i)) && nat_lt (count_by (is_to (c.key.ensures i).destination) (c.parts.view_is i).mail.items) most_for_one))

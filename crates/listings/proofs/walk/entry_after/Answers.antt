@@ -2,7 +2,7 @@ use Rattle.std.proofs.Common.{◌≡◌, Some, sym, ap, ◌∙◌, rules}
 use Rattle.std.specs.Option.{option_map}
 use Rattle.mailbox.specs.Order.{next_item, next_due}
 use Rattle.listings.specs.declared.listing.Table.TheVariants as table
-use Rattle.listings.specs.declared.walk.Place.TheVariants as place
+use Rattle.listings.specs.declared.walk.TablePlace.TheVariants as place
 use Rattle.listings.specs.Entries.{ItemEntry}
 use Rattle.listings.specs.Inside.Walking.{entry_after}
 use Rattle.listings.proofs.walk.entry_after.Goals as goal

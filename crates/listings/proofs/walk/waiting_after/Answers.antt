@@ -1,6 +1,6 @@
 use Rattle.std.proofs.Common.{◌≡◌, Some, sym, ap, ◌∙◌, rules}
 use Rattle.listings.specs.declared.listing.Table.TheVariants as table
-use Rattle.listings.specs.declared.walk.Place.TheVariants as place
+use Rattle.listings.specs.declared.walk.TablePlace.TheVariants as place
 use Rattle.listings.specs.Inside.Walking.{entry_after}
 use Rattle.listings.proofs.walk.waiting_after.Goals as goal
 

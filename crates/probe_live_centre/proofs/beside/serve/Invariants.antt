@@ -1,6 +1,6 @@
-use Rattle.flusher.specs.View.{view_of}
+use Rattle.flusher.specs.View.{view_of_flusher}
 use Rattle.flusher.specs.Served.{IsSettled}
 use Rattle.probe_live_centre.proofs.beside.serve.Given as goal
 
 abbrev pub invariant-loop : goal.invariant-loop
-invariant-loop g l = IsSettled g.J.Centre.base (view_of l.flusher)
+invariant-loop g l = IsSettled g.J.Centre.base (view_of_flusher l.flusher)

@@ -1,7 +1,7 @@
 use Rattle.std.proofs.Common.{rules, ◌+◌, ◌<◌, arith}
 use Rattle.std.proofs.lemmas.Result.{on_ok_weaker}
 use Rattle.gated_journal.specs.declared.form.Form.TheVariants.{Numbered}
-use Rattle.checkpoint.specs.OnSide.{Base, Held, IsOnSide, fresh}
+use Rattle.checkpoint.specs.OnSide.{Base, RecordsAndGate, IsOnSide, fresh}
 use Rattle.checkpoint.specs.Calls.{image_calls, image_calls_by, switch_calls}
 use Rattle.checkpoint.specs.Layout.{other_of}
 use Rattle.checkpoint.proofs.Spared.{left_each}
@@ -71,14 +71,14 @@ returns-clause-keeps g c = keeps_on (g.D.Disk.view c.args.disk.now) (g.D.Disk.vi
 
 pub returns-in_err-write_image-clause-any_moment : goal.returns-in_err-write_image-clause-any_moment
 returns-in_err-write_image-clause-any_moment g c = λ form base held same honest each.
-    let more : Held g.row.A.Denot = fresh c.args.layout.now (other_of c.args.current) in
+    let more : RecordsAndGate g.row.A.Denot = fresh c.args.layout.now (other_of c.args.current) in
     not_switched c.args.layout.now c.args.current form Numbered base (c.args.epoch + 1, c.args.register.now) held more (g.D.Disk.view c.args.disk.now)
     (g.D.Disk.view c.write_image.new.disk) (c.write_image.ensures.any_moment form base held honest each)
 
 pub returns-clause-any_moment : goal.returns-clause-any_moment
 returns-clause-any_moment g c = λ form base held same honest each.
     let next : Base = (c.args.epoch + 1, c.args.register.now) in
-    let more : Held g.row.A.Denot = fresh c.args.layout.now (other_of c.args.current) in
+    let more : RecordsAndGate g.row.A.Denot = fresh c.args.layout.now (other_of c.args.current) in
     let old = g.D.Disk.view c.args.disk.now in
     let mid = g.D.Disk.view c.write_image.new.disk in
     let written = c.write_image.ensures.any_moment form base held honest each in
@@ -92,7 +92,7 @@ returns-clause-any_moment g c = λ form base held same honest each.
 pub returns-clause-switched : goal.returns-clause-switched
 returns-clause-switched g c = on_ok_weaker c.switch.result (λ then form base held same honest each.
     let next : Base = (c.args.epoch + 1, c.args.register.now) in
-    let more : Held g.row.A.Denot = fresh c.args.layout.now (other_of c.args.current) in
+    let more : RecordsAndGate g.row.A.Denot = fresh c.args.layout.now (other_of c.args.current) in
     let old = g.D.Disk.view c.args.disk.now in
     let mid = g.D.Disk.view c.write_image.new.disk in
     let written = c.write_image.ensures.any_moment form base held honest each in

@@ -7,7 +7,7 @@ use Rattle.checkpoint.specs.Layout.{label_at}
 use Rattle.checkpoint.specs.OnSide.{slot_form}
 use Rattle.recovery.specs.declared.fault.StoreFault.{StoreFault}
 use Rattle.recovery.specs.Inside.Opened.{opened_view}
-use Rattle.recovery.specs.Opening.{AreGoodSoFar, Gives, side_reads}
+use Rattle.recovery.specs.Opening.{AreGoodSoFar, IsValueIn, side_reads}
 use Rattle.recovery.specs.Opens.{Opening}
 use Rattle.recovery.proofs.Chained.{opens_on}
 use Rattle.recovery.proofs.Opened.{called_on}
@@ -44,4 +44,4 @@ returns-clause-exact g c honest =
     let form : c.in_ok-current.current.form ≡ slot_form c.in_ok-layout.layout c.in_ok-current.current.side two.reads = rw after.reads (c.in_ok-current.ensures.form only_read.honest) in
     let there = opens_on g.row.A.Denot old.reads c.in_ok-layout.layout c.in_ok-current.current.side (c.in_ok-layout.ensures.exact honest)
     (rw only_read.reads at (c.in_ok-current.ensures.exact only_read.honest)) in
-    subst (λ (q : Result Opening StoreFault). Gives opened_view c.read_current.result q) (sym there) (rw only_read_2.reads at (c.read_current.ensures.exact only_read_2.honest form))
+    subst (λ (q : Result Opening StoreFault). IsValueIn opened_view c.read_current.result q) (sym there) (rw only_read_2.reads at (c.read_current.ensures.exact only_read_2.honest form))

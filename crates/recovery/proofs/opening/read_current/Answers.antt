@@ -2,7 +2,7 @@ use Rattle.std.proofs.Common.{◌≡◌, ℕ, Err, ap, subst}
 use Rattle.sector_disk.specs.Disk.{View}
 use Rattle.recovery.specs.declared.fault.StoreFault.TheVariants.{DiskFault, NoMemory}
 use Rattle.checkpoint.specs.OnSide.{slot_form}
-use Rattle.recovery.specs.Inside.Reads.{IsOfReading}
+use Rattle.recovery.specs.Inside.Reads.{IsOfRowsOrRecords}
 use Rattle.recovery.proofs.Chained.{by_both, by_half}
 use Rattle.recovery.proofs.Opened.{so_far}
 use Rattle.sector_disk.proofs.Effects.{reads_on}
@@ -47,7 +47,7 @@ returns-in-Ok-clause-reads g c =
 pub returns-in-Err-clause-reads : goal.returns-in-Err-clause-reads
 returns-in-Err-clause-reads g c =
     record {
-      kinds = subst (λ (n : ℕ). IsOfReading n c.in-Err.fault) c.in_ok-epoch.ensures.reads.disk.sectors c.in-Err.ensures.reads.kinds;
+      kinds = subst (λ (n : ℕ). IsOfRowsOrRecords n c.in-Err.fault) c.in_ok-epoch.ensures.reads.disk.sectors c.in-Err.ensures.reads.kinds;
       disk = reads_on (g.D.Disk.view c.args.disk.now) (g.D.Disk.view c.read_base.new.disk) (g.D.Disk.view c.read_half.new.disk)
           c.in_ok-epoch.ensures.reads.disk c.in-Err.ensures.reads.disk (λ e. let is : c.in-Err.fault ≡ DiskFault = cc in ap Err is);
     }

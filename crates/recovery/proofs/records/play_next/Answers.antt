@@ -6,13 +6,13 @@ use Rattle.recovery.proofs.Replayed.{is_no_memory, plays_closed, plays_fault, pl
 use Rattle.gated_journal.proofs.Kept.{reads_where}
 use Rattle.recovery.specs.declared.fault.StoreFault.{StoreFault}
 use Rattle.recovery.specs.declared.fault.StoreFault.TheVariants.{BadGeometry, Broken, Damaged, DiskFault, EpochsUsedUp, NoMemory, Unformatted, Unready}
-use Rattle.recovery.specs.Inside.Reads.{IsOfReading, IsOfRecord}
+use Rattle.recovery.specs.Inside.Reads.{IsOfRowsOrRecords, IsOfRecord}
 use Rattle.recovery.specs.Opening.{HasReadAgain, fault_of}
 use Rattle.recovery.specs.Opens.{run, taken}
 use Rattle.recovery.proofs.records.play_next.Goals as goal
 
 -- a record in a half is in so many sectors, and its commands are no matter of the device
-of_reading : (at end : ℕ) (e : StoreFault) → at < end → IsOfRecord at e → IsOfReading end e
+of_reading : (at end : ℕ) (e : StoreFault) → at < end → IsOfRecord at e → IsOfRowsOrRecords end e
 of_reading at end Unformatted lt is = is
 of_reading at end BadGeometry lt is = is
 of_reading at end (Damaged s) lt is = rw is lt

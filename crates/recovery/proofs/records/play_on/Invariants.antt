@@ -3,7 +3,7 @@ use Rattle.sector_disk.specs.Disk.{View}
 use Rattle.sector_disk.specs.Reading.{before_reads}
 use Rattle.sector_disk.specs.Run.{HasOnlyRead}
 use Rattle.gated_journal.specs.Half.{half_of}
-use Rattle.gated_journal.specs.Settled.{IsCounted}
+use Rattle.gated_journal.specs.Settled.{HasNumbersLeft}
 use Rattle.recovery.specs.Inside.Played.{HasPlayed}
 use Rattle.recovery.specs.Opens.{played_from}
 use Rattle.recovery.proofs.records.play_on.Given as goal
@@ -15,7 +15,7 @@ invariant-loop g l =
     record {
       form : l.journal.form ≡ l.initial.journal.form;
       counts : l.initial.journal.count ≡ l.initial.register.count → l.journal.count ≡ l.register.count;
-      room : IsCounted l.journal;
+      room : HasNumbersLeft l.journal;
       before : l.journal.next < l.initial.journal.end;
       first : l.journal.first ≡ l.initial.journal.first;
       end : l.journal.end ≡ l.initial.journal.end;

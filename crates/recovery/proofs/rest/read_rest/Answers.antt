@@ -9,7 +9,7 @@ use Rattle.recovery.proofs.rest.read_rest.Goals as goal
 
 pub returns-in-Ok-clause-exact : goal.returns-in-Ok-clause-exact
 returns-in-Ok-clause-exact g c honest =
-    rw (c.whole.ensures.side, c.whole.ensures.epoch, c.whole.ensures.none, c.whole.ensures.register, c.whole.ensures.stop) (whole (opened_view c.in-Ok.opened) (c.in-Ok.ensures.exact honest))
+    rw (c.rest_of_opened.ensures.side, c.rest_of_opened.ensures.epoch, c.rest_of_opened.ensures.none, c.rest_of_opened.ensures.register, c.rest_of_opened.ensures.stop) (whole (opened_view c.in-Ok.opened) (c.in-Ok.ensures.exact honest))
 
 pub returns-in-Err-Damaged-clause-exact : goal.returns-in-Err-Damaged-clause-exact
 returns-in-Err-Damaged-clause-exact g c =
@@ -27,7 +27,7 @@ returns-in-Err-Damaged-clause-faults g c =
     unlabelled g.row.A.Denot (g.D.Disk.view c.args.disk.now).reads fault kind (rw read.reads at (says read.honest)))
 
 pub returns-in-Ok-clause-after : goal.returns-in-Ok-clause-after
-returns-in-Ok-clause-after g c honest = rw c.whole.ensures.stop c.whole.ensures.later
+returns-in-Ok-clause-after g c honest = rw c.rest_of_opened.ensures.stop c.rest_of_opened.ensures.later
 
 pub returns-in-Err-Damaged-clause-after : goal.returns-in-Err-Damaged-clause-after
 returns-in-Err-Damaged-clause-after g c =

@@ -2,7 +2,7 @@ use Rattle.std.proofs.Common.{◌≡◌, ◌+◌, ◌<◌, ◌≤◌, ◌-◌, �
 use Rattle.sector_disk.specs.Disk.{View}
 use Rattle.sector_disk.specs.Reading.{before_reads}
 use Rattle.sector_disk.specs.Run.{HasOnlyRead}
-use Rattle.gated_journal.specs.Settled.{IsCounted}
+use Rattle.gated_journal.specs.Settled.{HasNumbersLeft}
 use Rattle.recovery.specs.Inside.Rests.{CanRead}
 use Rattle.recovery.proofs.rest_records.count_later.Given as goal
 
@@ -11,7 +11,7 @@ invariant-loop-later g l =
     let old : View = g.D.Disk.view l.initial.disk in
     let now : View = g.D.Disk.view l.disk in
     record {
-      room : IsCounted l.journal;
+      room : HasNumbersLeft l.journal;
       before : l.journal.next < l.initial.journal.end;
       end : l.journal.end ≡ l.initial.journal.end;
       form : l.journal.form ≡ l.initial.journal.form;

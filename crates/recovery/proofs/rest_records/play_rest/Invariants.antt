@@ -3,7 +3,7 @@ use Rattle.sector_disk.specs.Disk.{View}
 use Rattle.sector_disk.specs.Reading.{before_reads}
 use Rattle.sector_disk.specs.Run.{HasOnlyRead}
 use Rattle.centre_core.specs.State.{State}
-use Rattle.gated_journal.specs.Settled.{IsCounted}
+use Rattle.gated_journal.specs.Settled.{HasNumbersLeft}
 use Rattle.recovery.specs.Rests.{LeadsTo}
 use Rattle.recovery.specs.Inside.Rests.{HasLater}
 use Rattle.recovery.proofs.rest_records.play_rest.Given as goal
@@ -14,7 +14,7 @@ invariant-loop g l =
     let now : View = g.D.Disk.view l.disk in
     record {
       form : l.journal.form ≡ l.initial.journal.form;
-      room : IsCounted l.journal;
+      room : HasNumbersLeft l.journal;
       before : l.journal.next < l.initial.journal.end;
       first : l.journal.first ≡ l.initial.journal.first;
       end : l.journal.end ≡ l.initial.journal.end;

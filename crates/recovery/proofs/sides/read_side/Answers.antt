@@ -34,20 +34,20 @@ returns-clause-exact g c honest =
     let old : View = g.D.Disk.view c.args.disk.now in
     let only_read = c.in_ok-a.ensures.reads.disk.only_read honest in
     let b = rw only_read.reads at (c.in_ok-b.ensures.exact only_read.honest) in
-    side_chosen c.args.layout.now old.reads (λ current. current.side) (reported c.in_ok-a.a) (reported c.in_ok-b.b) c.chosen.result (c.in_ok-a.ensures.exact honest) b c.chosen.ensures.value
+    side_chosen c.args.layout.now old.reads (λ current. current.side) (reported c.in_ok-a.a) (reported c.in_ok-b.b) c.choose_side.result (c.in_ok-a.ensures.exact honest) b c.choose_side.ensures.value
 
 pub returns-clause-form : goal.returns-clause-form
 returns-clause-form g c =
     let old : View = g.D.Disk.view c.args.disk.now in
-    if_ok_then (λ (current : Current). current.form ≡ slot_form c.args.layout.now current.side old.reads) c.chosen.result (λ honest.
+    if_ok_then (λ (current : Current). current.form ≡ slot_form c.args.layout.now current.side old.reads) c.choose_side.result (λ honest.
     let only_read = c.in_ok-a.ensures.reads.disk.only_read honest in
-    c.chosen.ensures.form (λ s. slot_form c.args.layout.now s old.reads) (c.in_ok-a.ensures.form honest) (rw only_read.reads at (c.in_ok-b.ensures.form only_read.honest)))
+    c.choose_side.ensures.form (λ s. slot_form c.args.layout.now s old.reads) (c.in_ok-a.ensures.form honest) (rw only_read.reads at (c.in_ok-b.ensures.form only_read.honest)))
 
 pub returns-clause-calls : goal.returns-clause-calls
 returns-clause-calls g c =
     let old : View = g.D.Disk.view c.args.disk.now in
     let mid : View = g.D.Disk.view c.read_head.new.disk in
     let now : View = g.D.Disk.view c.read_head-2.new.disk in
-    if_ok_then (λ (current : Current). HasCalled old now (header_reads c.args.layout.now side.A old.reads ++ header_reads c.args.layout.now side.B old.reads)) c.chosen.result (λ honest.
+    if_ok_then (λ (current : Current). HasCalled old now (header_reads c.args.layout.now side.A old.reads ++ header_reads c.args.layout.now side.B old.reads)) c.choose_side.result (λ honest.
     let only_read = c.in_ok-a.ensures.reads.disk.only_read honest in
-    if_ok c.chosen.result (called_on old.calls mid.calls now.calls _ _ (c.in_ok-a.ensures.calls honest) (rw only_read.reads at (c.in_ok-b.ensures.calls only_read.honest))))
+    if_ok c.choose_side.result (called_on old.calls mid.calls now.calls _ _ (c.in_ok-a.ensures.calls honest) (rw only_read.reads at (c.in_ok-b.ensures.calls only_read.honest))))

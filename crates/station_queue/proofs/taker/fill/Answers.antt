@@ -1,6 +1,6 @@
 use Rattle.std.proofs.Common.{◌-◌, ap, ◌∙◌, arith}
 use Rattle.crossbeam_queue.specs.Passes.{view as known}
-use Rattle.station_queue.specs.declared.rule.View.{View}
+use Rattle.station_queue.specs.declared.rule.QueueView.{QueueView}
 use Rattle.station_queue.proofs.Steps.{same_taker}
 use Rattle.station_queue.proofs.taker.fill.Goals as goal
 
@@ -9,7 +9,7 @@ loop-preserved c =
     let i = c.loop.invariant in
     let e = c.give_one.ensures in
     let one = same_taker (known c.loop.pass) (known c.give_one.new.pass) ((known c.loop.pass).places - 1) e.view in
-    let places = ap (λ (v : View). v.places) e.view in
+    let places = ap (λ (v : QueueView). v.places) e.view in
     let same = i.3 in (
       e.pass.0,
       e.pass.1 ∙ i.1,

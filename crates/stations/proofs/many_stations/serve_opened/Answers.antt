@@ -9,7 +9,7 @@ use Rattle.flusher.specs.Closed.{AreSessionsOf}
 use Rattle.flusher.specs.Opened.{IsNewFlusher}
 use Rattle.flusher.specs.Runs.{HasSameEnds, HasTakenEnds}
 use Rattle.flusher.specs.Served.{IsSettled}
-use Rattle.flusher.specs.View.{view_of}
+use Rattle.flusher.specs.View.{view_of_flusher}
 use Rattle.flusher.specs.declared.session.Ended.{Ended}
 use Rattle.stations.specs.Flushed.{HasFlushed}
 use Rattle.stations.proofs.Served.{has_served, sessions_ended}
@@ -63,16 +63,16 @@ split_done-ended-requires-clause-room g c =
     )
 
 pub store_of-store-requires-clause-settled : goal.store_of-store-requires-clause-settled
-store_of-store-requires-clause-settled g c = subst (λ f. IsSettled g.J.Centre.base (view_of f)) (sym c.into_flusher.ensures) c.serve_all-held.ensures.flushed.settled
+store_of-store-requires-clause-settled g c = subst (λ f. IsSettled g.J.Centre.base (view_of_flusher f)) (sym c.into_flusher.ensures) c.serve_all-held.ensures.flushed.settled
 
 pub store_of-store-requires-clause-ended : goal.store_of-store-requires-clause-ended
-store_of-store-requires-clause-ended g c = subst (λ f. HasTakenEnds (view_of f)) (sym c.into_flusher.ensures) c.serve_all-held.ensures.flushed.ended
+store_of-store-requires-clause-ended g c = subst (λ f. HasTakenEnds (view_of_flusher f)) (sym c.into_flusher.ensures) c.serve_all-held.ensures.flushed.ended
 
 pub store_of-store-requires-clause-sessions : goal.store_of-store-requires-clause-sessions
 store_of-store-requires-clause-sessions g c =
-    let first = view_of c.args.opened.0 in
-    let last = view_of c.into_flusher.result in
-    let same = subst (λ f. HasSameEnds first (view_of f)) (sym c.into_flusher.ensures) c.serve_all-held.ensures.flushed.same in
+    let first = view_of_flusher c.args.opened.0 in
+    let last = view_of_flusher c.into_flusher.result in
+    let same = subst (λ f. HasSameEnds first (view_of_flusher f)) (sym c.into_flusher.ensures) c.serve_all-held.ensures.flushed.same in
     subst (λ (l : List (Ended g.row.J.Denot)). AreSessionsOf last l) (sym c.split_done-ended.ensures.ended)
     (sessions_ended g.J.Centre.base g.I.Read.remaining g.O.Write.contents first last c.args.opened.1.items c.args.ports.items c.jobs_of-jobs.result.items
     c.serve_all-held.result.1.items c.jobs_of-jobs.ensures.sessions c.jobs_of-jobs.ensures.ports c.requires.sessions c.serve_all-held.ensures.done
@@ -80,13 +80,13 @@ store_of-store-requires-clause-sessions g c =
 
 pub returns : goal.returns
 returns g c =
-    let first = view_of c.args.opened.0 in
-    let last = view_of c.into_flusher.result in
+    let first = view_of_flusher c.args.opened.0 in
+    let last = view_of_flusher c.into_flusher.result in
     has_served g.J.Centre.base g.I.Read.remaining g.O.Write.contents first last c.args.opened.1.items c.args.ports.items c.jobs_of-jobs.result.items
     c.serve_all-held.result.1.items c.jobs_of-jobs.ensures.sessions c.jobs_of-jobs.ensures.ports c.requires.sessions c.serve_all-held.ensures.done
     c.args.terms.orders c.jobs_of-jobs.ensures.orders c.args.terms.turns c.jobs_of-jobs.ensures.turns
     g.D.Disk.view first.store (store_view c.store_of-store.result) (length c.args.ports.items) c.requires.sound
     (stored_by (command.the_row Heap.the_row ghosts).coded g.met.D.Disk.sound c.args.opened.0.committer.store) refl
     (subst (λ n. IsNewFlusher n first.store first) c.args.ports.ok.0 c.requires.flusher)
-    (subst (λ f. HasFlushed g.D.Disk.view g.J.Centre.base first (view_of f)) (sym c.into_flusher.ensures) c.serve_all-held.ensures.flushed)
+    (subst (λ f. HasFlushed g.D.Disk.view g.J.Centre.base first (view_of_flusher f)) (sym c.into_flusher.ensures) c.serve_all-held.ensures.flushed)
     c.store_of-store.ensures.store c.split_done-ended.result.0.items c.split_done-ended.result.1.items c.split_done-ended.ensures.ended c.split_done-ended.ensures.runs c.store_of-store.ensures.closed

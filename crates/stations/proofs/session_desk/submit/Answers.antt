@@ -1,6 +1,6 @@
 use Rattle.std.proofs.Common.{rules, ◌≡◌, ◌∙◌, true, inl, subst}
 use Rattle.centre_core.proofs.SameLaws.{under_own}
-use Rattle.flusher.specs.Sessions.{view_of}
+use Rattle.flusher.specs.Sessions.{view_of_session}
 use Rattle.flusher.specs.Submitted.{IsSubmission}
 use Rattle.stations.specs.Orders.{is_allowed}
 use Rattle.stations.proofs.session_desk.submit.Goals as goal
@@ -17,7 +17,7 @@ returns-in-Ok-clause-applies g c =
         record {
           answer = c.submit.result;
           result_is = c.result_of.ensures;
-          submission = subst (λ d. IsSubmission g.J.Centre.base d (view_of c.args.session.now) (view_of c.submit.new.self) c.submit.result) own c.submit.ensures.submitted;
+          submission = subst (λ d. IsSubmission g.J.Centre.base d (view_of_session c.args.session.now) (view_of_session c.submit.new.self) c.submit.result) own c.submit.ensures.submitted;
         },
       ),
     )

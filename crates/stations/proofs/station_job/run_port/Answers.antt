@@ -3,7 +3,7 @@ use Rattle.std.specs.Prelude.{Option}
 use Rattle.identity.specs.Numbers.{Byte}
 use Rattle.console.specs.Events.{Event}
 use Rattle.console.specs.Told.{EndsFor}
-use Rattle.flusher.specs.Sessions.{view_of}
+use Rattle.flusher.specs.Sessions.{view_of_session}
 use Rattle.stations.specs.Done.{IsRunOf, IsToldOf, speaker_of}
 use Rattle.stations.specs.GoesOn.{GoesOnFrom, beginning_of}
 use Rattle.stations.proofs.Runs.{told_within}
@@ -17,12 +17,12 @@ returns g c =
     let serving = c.serving-serving.ensures in
     record {
       answers = subst (λ (q : Bool × Option (List Byte) × Option (List Byte)). IsRunOf g.row.J.Denot g.J.Centre.base (record { station = job.session.sender.station; orders = q.0 })
-          (g.I.Read.remaining job.port.reader) q.1 (view_of job.session) (view_of ran.result.0) q.2 ran.result.1)
+          (g.I.Read.remaining job.port.reader) q.1 (view_of_session job.session) (view_of_session ran.result.0) q.2 ran.result.1)
           (λ i. (serving.orders i, ap g.O.Write.contents c.new-writer.ensures i, ap g.O.Write.contents (sym within.ensures.writer) i)) ran.ensures.answers;
       told = told_within g.row.J.Denot g.J.Centre.base ran.result.2 within.result.1 (speaker_of job) (g.I.Read.remaining job.port.reader) (g.O.Write.contents job.port.writer)
-          (view_of job.session) (view_of ran.result.0) (g.O.Write.contents within.result.0) ran.result.1 within.ensures.read within.ensures.written
+          (view_of_session job.session) (view_of_session ran.result.0) (g.O.Write.contents within.result.0) ran.result.1 within.ensures.read within.ensures.written
           (subst (λ (q : Bool × Option (List Byte) × Option (List Byte)). IsToldOf g.row.J.Denot g.J.Centre.base (record { station = job.session.sender.station; orders = q.0 })
-          (g.I.Read.remaining job.port.reader) q.1 ran.result.2 (view_of job.session) (view_of ran.result.0) q.2 ran.result.1)
+          (g.I.Read.remaining job.port.reader) q.1 ran.result.2 (view_of_session job.session) (view_of_session ran.result.0) q.2 ran.result.1)
           (λ i. (serving.orders i, ap g.O.Write.contents c.new-writer.ensures i, ap g.O.Write.contents (sym within.ensures.writer) i)) ran.ensures.told);
       ends = subst (λ (q : ℕ × List Event × List Event). EndsFor q.0 q.1 q.2 ran.result.1)
           (λ i. (serving.turns i, sym within.ensures.read i, sym within.ensures.written i)) ran.ensures.ends;

@@ -1,5 +1,5 @@
 use Rattle.std.proofs.Common.{◌≡◌, [], ◌∷◌, ◌++◌, ap, ◌∙◌, subst}
-use Rattle.flusher.specs.Sessions.{view_of}
+use Rattle.flusher.specs.Sessions.{view_of_session}
 use Rattle.atomic_table.specs.Seated.{TableId}
 use Rattle.registration.specs.Numbers.{Station}
 use Rattle.station_queue.specs.Ends.{sending}
@@ -15,7 +15,7 @@ returns g c =
     let ran = c.run_port-session in
     let session = ran.result.0 in
     let end = c.finish-ended.ensures in (
-      view_of session,
+      view_of_session session,
       record {
         run = ran.ensures.answers;
         told = ran.ensures.told;
@@ -26,6 +26,6 @@ returns g c =
         channel = ap (λ (r : AnswerReceiver Sent). receives_on r.channel) end.same.0 ∙ ran.ensures.goes_on.channel;
         seen = end.same.1;
         submits = ran.ensures.goes_on.submits;
-        memory = λ out. ap view_of (ran.ensures.memory out);
+        memory = λ out. ap view_of_session (ran.ensures.memory out);
       },
     )

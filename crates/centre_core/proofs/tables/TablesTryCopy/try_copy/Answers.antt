@@ -12,7 +12,7 @@ invariant_of-result g c =
           c.self.inside.served.items;
       count = c.self.inside.count;
     }) _ _ _ _ c.in_ok-try_copy.ensures c.in_ok-try_copy-2.ensures
-    c.in_ok-try_copy-3.ensures (c.in_ok-copied.ensures ∙ c.deref.ensures.value) c.self.invariant
+    c.in_ok-try_copy-3.ensures (c.in_ok-copy_all.ensures ∙ c.deref.ensures.value) c.self.invariant
 
 pub returns : goal.returns
 returns g c =
@@ -24,4 +24,4 @@ returns g c =
           c.self.inside.served.items;
       count = c.self.inside.count;
     }) _ _ _ _ c.in_ok-try_copy.ensures c.in_ok-try_copy-2.ensures
-    c.in_ok-try_copy-3.ensures (c.in_ok-copied.ensures ∙ c.deref.ensures.value) ∙ c.self.view_is
+    c.in_ok-try_copy-3.ensures (c.in_ok-copy_all.ensures ∙ c.deref.ensures.value) ∙ c.self.view_is

@@ -41,5 +41,5 @@ returns-clause-store g c =
 pub returns-clause-short : goal.returns-clause-short
 returns-clause-short g c =
     commit_short c.args.self.now.store.register c.commit-done.new.self.register (asked c.args.commands.now) c.commit-done.result
-    (subst StateInRange c.register_of.ensures c.registers.ensures.ranges) (all_asked c.args.commands.now c.hold_ranges.ensures)
+    (subst StateInRange c.register_of.ensures c.registers.ensures.ranges) (all_asked c.args.commands.now c.facts_of_ranges.ensures)
     c.commit-done.ensures.answers.outcomes

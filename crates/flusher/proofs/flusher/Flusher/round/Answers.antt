@@ -14,7 +14,7 @@ use Rattle.flusher.specs.Batches.{AreWithin}
 use Rattle.flusher.specs.Rounds.{IsRound}
 use Rattle.flusher.specs.Served.{HasServed, IsSettled}
 use Rattle.flusher.specs.Stored.{IsStoredFor}
-use Rattle.flusher.specs.View.{FlusherView, durable_of, progress, progress_by, view_of}
+use Rattle.flusher.specs.View.{FlusherView, durable_of, progress, progress_by, view_of_flusher}
 use Rattle.flusher.proofs.Endings.{ended_after}
 use Rattle.flusher.proofs.ByItself.{round_order, round_sent}
 use Rattle.flusher.proofs.Batched.{commands_among-append, length-ended}
@@ -65,7 +65,7 @@ returns-then-level-clause-settled g c =
     let base = g.J.Centre.base in
     let s = c.requires.settled in
     let t = c.take_batch.ensures.taken in
-    let old : FlusherView g.row.D.Denot = view_of c.args.self.now in
+    let old : FlusherView g.row.D.Denot = view_of_flusher c.args.self.now in
     let n = c.commit_and_answer.new in
     let now : FlusherView g.row.D.Denot = record {
       taker = c.take_batch.new.taker;
@@ -122,7 +122,7 @@ returns-clause-settled g c =
     let e = c.catch_up-level.ensures in
     let s = c.requires.settled in
     let base = g.J.Centre.base in
-    let old : FlusherView g.row.D.Denot = view_of c.args.self.now in
+    let old : FlusherView g.row.D.Denot = view_of_flusher c.args.self.now in
     let new = c.catch_up-level.new.self in
     let now : FlusherView g.row.D.Denot = record {
       taker = c.take_batch.new.taker;
@@ -182,17 +182,17 @@ returns-then-level-clause-stored g c h =
       attempts = tries n.committer.attempts n.publication.publisher.refusals;
       ended = c.take_batch.new.ended.items;
     } in
-    let r : IsRound view base (view_of old) now = returns-then-level-clause-round g c in
+    let r : IsRound view base (view_of_flusher old) now = returns-then-level-clause-round g c in
     let settled : IsSettled base now = returns-then-level-clause-settled g c in
     let kept : IsStoredFor view base now =
-    stored_on view base (view_of old) now batch (ap commands_among t.taken.taken ∙ commands_among-append old.taker.taken t.popped ∙
+    stored_on view base (view_of_flusher old) now batch (ap commands_among t.taken.taken ∙ commands_among-append old.taker.taken t.popped ∙
     ap (λ l. commands_among old.taker.taken ++ l) t.these) sound (s.made sound) s.order e.store.images
     (λ down. let u = e.durable.under_way down in (u.0, u.1 ∙ c.catch_up-level.ensures.durable)) (g.met.D.Disk.sound n.committer.store.disk) h in
     record {
-      call = round_call view base (view_of old) now r s.made s.order settled old.committer.store.broken refl (λ up. e.store.images h.honest (h.sound up));
+      call = round_call view base (view_of_flusher old) now r s.made s.order settled old.committer.store.broken refl (λ up. e.store.images h.honest (h.sound up));
       stored = kept;
       any_moment = λ up. (e.store.images h.honest (h.sound up)).any_moment;
-      durable = last_durable view base (view_of old) now r settled (g.met.D.Disk.sound n.committer.store.disk) kept;
+      durable = last_durable view base (view_of_flusher old) now r settled (g.met.D.Disk.sound n.committer.store.disk) kept;
     }
 
 pub returns-then-level-clause-breaks : goal.returns-then-level-clause-breaks
@@ -217,16 +217,16 @@ returns-clause-stored g c h =
       attempts = tries old.committer.attempts new.publisher.refusals;
       ended = c.take_batch.new.ended.items;
     } in
-    let r : IsRound view base (view_of old) now = returns-clause-round g c in
+    let r : IsRound view base (view_of_flusher old) now = returns-clause-round g c in
     let settled : IsSettled base now = returns-clause-settled g c in
     let kept : IsStoredFor view base now =
-    stored_still view base (view_of old) now batch (ap commands_among t.taken.taken ∙ commands_among-append old.taker.taken t.popped ∙
+    stored_still view base (view_of_flusher old) now batch (ap commands_among t.taken.taken ∙ commands_among-append old.taker.taken t.popped ∙
     ap (λ l. commands_among old.taker.taken ++ l) t.these) refl c.catch_up-level.ensures.durable h in
     record {
-      call = round_call view base (view_of old) now r s.made s.order settled store.broken refl (λ up. keeps_self view store (g.met.D.Disk.sound store.disk) h.honest (h.sound up));
+      call = round_call view base (view_of_flusher old) now r s.made s.order settled store.broken refl (λ up. keeps_self view store (g.met.D.Disk.sound store.disk) h.honest (h.sound up));
       stored = kept;
       any_moment = λ up. (keeps_self view store (g.met.D.Disk.sound store.disk) h.honest (h.sound up)).any_moment;
-      durable = last_durable view base (view_of old) now r settled (g.met.D.Disk.sound store.disk) kept;
+      durable = last_durable view base (view_of_flusher old) now r settled (g.met.D.Disk.sound store.disk) kept;
     }
 
 pub returns-clause-breaks : goal.returns-clause-breaks

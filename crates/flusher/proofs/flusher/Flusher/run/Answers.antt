@@ -1,5 +1,5 @@
 use Rattle.std.proofs.Common.{inl, inr, true≢false, refl, sym, ◌∙◌, arith}
-use Rattle.flusher.specs.View.{view_of}
+use Rattle.flusher.specs.View.{view_of_flusher}
 use Rattle.flusher.specs.Lasting.{AreLasting, no_more}
 use Rattle.flusher.specs.Runs.{none}
 use Rattle.flusher.proofs.Between.{none_between, one_more_between, one_more_failed}
@@ -10,7 +10,7 @@ use Rattle.flusher.proofs.flusher.Flusher.run.Goals as goal
 
 pub loop-init : goal.loop-init
 loop-init g c =
-    let f = view_of c.args.self.now in
+    let f = view_of_flusher c.args.self.now in
     record {
       settled = c.requires.settled;
       rounds = none f;
@@ -32,9 +32,9 @@ loop-preserved g c =
     let e = c.round.ensures in
     let view = g.D.Disk.view in
     let base = g.J.Centre.base in
-    let f = view_of c.args.self.now in
-    let m = view_of c.loop.self in
-    let n = view_of c.round.new.self in
+    let f = view_of_flusher c.args.self.now in
+    let m = view_of_flusher c.loop.self in
+    let n = view_of_flusher c.round.new.self in
     let was = i.breaks.later in
     let more = e.breaks.later in
     record {
@@ -76,7 +76,7 @@ pub returns-then-has_ended-clause-breaks : goal.returns-then-has_ended-clause-br
 returns-then-has_ended-clause-breaks g c = c.loop.invariant.breaks
 
 pub returns-then-has_ended-clause-ended : goal.returns-then-has_ended-clause-ended
-returns-then-has_ended-clause-ended g c = ends_are_taken (view_of c.loop.self) c.loop.self.stations c.loop.self.flags c.loop.invariant.settled.ended (c.has_ended.ensures.0 c.if-has_ended.true)
+returns-then-has_ended-clause-ended g c = ends_are_taken (view_of_flusher c.loop.self) c.loop.self.stations c.loop.self.flags c.loop.invariant.settled.ended (c.has_ended.ensures.0 c.if-has_ended.true)
 
 pub returns-then-has_ended-clause-same : goal.returns-then-has_ended-clause-same
 returns-then-has_ended-clause-same g c = c.loop.invariant.same

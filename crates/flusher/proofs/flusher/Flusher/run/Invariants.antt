@@ -1,5 +1,5 @@
 use Rattle.std.proofs.Common.{◌≤◌}
-use Rattle.flusher.specs.View.{view_of}
+use Rattle.flusher.specs.View.{view_of_flusher}
 use Rattle.flusher.specs.Served.{IsSettled}
 use Rattle.flusher.specs.Stored.{IsStoredFor}
 use Rattle.flusher.specs.OnDisk.{AreRoundsStored, BreaksByDisk}
@@ -8,11 +8,11 @@ use Rattle.flusher.proofs.flusher.Flusher.run.Given as goal
 
 abbrev pub invariant-loop : goal.invariant-loop
 invariant-loop g l = record {
-  settled : IsSettled g.J.Centre.base (view_of l.self);
-  rounds : AreRounds g.D.Disk.view g.J.Centre.base (view_of l.initial.self) (view_of l.self);
-  stored : IsStoredFor g.D.Disk.view g.J.Centre.base (view_of l.initial.self) → AreRoundsStored g.D.Disk.view g.J.Centre.base (view_of l.initial.self) (view_of l.self);
-  breaks : BreaksByDisk g.D.Disk.view (view_of l.initial.self).store (view_of l.self).store;
-  same : HasSameEnds (view_of l.initial.self) (view_of l.self);
+  settled : IsSettled g.J.Centre.base (view_of_flusher l.self);
+  rounds : AreRounds g.D.Disk.view g.J.Centre.base (view_of_flusher l.initial.self) (view_of_flusher l.self);
+  stored : IsStoredFor g.D.Disk.view g.J.Centre.base (view_of_flusher l.initial.self) → AreRoundsStored g.D.Disk.view g.J.Centre.base (view_of_flusher l.initial.self) (view_of_flusher l.self);
+  breaks : BreaksByDisk g.D.Disk.view (view_of_flusher l.initial.self).store (view_of_flusher l.self).store;
+  same : HasSameEnds (view_of_flusher l.initial.self) (view_of_flusher l.self);
   counted : l.initial.self.rounds ≤ l.self.rounds;
-  at_once : HasStopped g.D.Disk.view g.J.Centre.base (view_of l.initial.self) (view_of l.self);
+  at_once : HasStopped g.D.Disk.view g.J.Centre.base (view_of_flusher l.initial.self) (view_of_flusher l.self);
 }

@@ -17,14 +17,14 @@ pub returns-then-not-any_at-clause-refusal : goal.returns-then-not-any_at-clause
 returns-then-not-any_at-clause-refusal g c = λ stamp pdu.
     let ruled : Some c.in-Some.rule ≡ rule_of c.args.registry.now c.args.envelope.now.destination = c.in-Some.ensures ∙ ap (rule_of c.args.registry.now) c.number.ensures.value in
     let none : list_any (is_at (answered c.args.envelope.now Message)) (waiting c.args.self.now c.args.envelope.now.source) ≡ false =
-    (λ i. list_any (is_at (sym c.answered.ensures i)) (sym c.items_of-at_source.ensures.items i)) ∙ sym c.any_at.ensures ∙ c.if-not-any_at.true in
+    (λ i. list_any (is_at (sym c.answered_key.ensures i)) (sym c.items_of-at_source.ensures.items i)) ∙ sym c.any_at.ensures ∙ c.if-not-any_at.true in
     report_missing c.args.registry.now c.args.self.now c.args.envelope.now (ap unknown_refusal (sym ruled)) (sym c.in_default-absent_refusal.ensures) c.args.status stamp pdu none
 
 pub returns-in-Some-full_by_report-clause-refusal : goal.returns-in-Some-full_by_report-clause-refusal
 returns-in-Some-full_by_report-clause-refusal g c = λ stamp pdu.
     let ruled : Some c.in-Some.rule ≡ rule_of c.args.registry.now c.args.envelope.now.destination = c.in-Some.ensures ∙ ap (rule_of c.args.registry.now) c.number.ensures.value in
     let held : list_any (is_at (answered c.args.envelope.now Message)) (waiting c.args.self.now c.args.envelope.now.source) ≡ true =
-    (λ i. list_any (is_at (sym c.answered.ensures i)) (sym c.items_of-at_source.ensures.items i)) ∙ sym c.any_at.ensures ∙ c.if-not-any_at.false in
+    (λ i. list_any (is_at (sym c.answered_key.ensures i)) (sym c.items_of-at_source.ensures.items i)) ∙ sym c.any_at.ensures ∙ c.if-not-any_at.false in
     report_as_judged c.args.registry.now c.args.self.now c.args.envelope.now (ap unknown_refusal (sym ruled))
     (sym c.in_default-absent_refusal.ensures) c.args.status stamp pdu held _ c.in-Some-full_by_report.ensures
 
@@ -32,7 +32,7 @@ pub returns-clause-refusal : goal.returns-clause-refusal
 returns-clause-refusal g c = λ stamp pdu.
     let ruled : Some c.in-Some.rule ≡ rule_of c.args.registry.now c.args.envelope.now.destination = c.in-Some.ensures ∙ ap (rule_of c.args.registry.now) c.number.ensures.value in
     let held : list_any (is_at (answered c.args.envelope.now Message)) (waiting c.args.self.now c.args.envelope.now.source) ≡ true =
-    (λ i. list_any (is_at (sym c.answered.ensures i)) (sym c.items_of-at_source.ensures.items i)) ∙ sym c.any_at.ensures ∙ c.if-not-any_at.false in
+    (λ i. list_any (is_at (sym c.answered_key.ensures i)) (sym c.items_of-at_source.ensures.items i)) ∙ sym c.any_at.ensures ∙ c.if-not-any_at.false in
     report_as_judged c.args.registry.now c.args.self.now c.args.envelope.now (ap unknown_refusal (sym ruled))
     (sym c.in_default-absent_refusal.ensures) c.args.status stamp pdu held _ c.in_default-full_by_report.ensures
 

@@ -3,7 +3,7 @@ use Rattle.std.specs.List.{find}
 use Rattle.std.specs.Option.{option_map}
 use Rattle.std.proofs.lemmas.Result.{on_ok_weaker}
 use Rattle.base.proofs.Results.{on_err}
-use Rattle.mailbox.specs.declared.place.Place.{Place}
+use Rattle.mailbox.specs.declared.place.ItemPlace.{ItemPlace}
 use Rattle.mailbox.specs.Values.{Mailed}
 use Rattle.mailbox.specs.Item.{is_at}
 use Rattle.mailbox.specs.Order.{ComesLast, place_of}
@@ -56,7 +56,7 @@ invariant_of-self-2 g c =
     filed_again _ _ _ (filed_put_again _ c.self.inside.boxes c.put.new.self c.self.inside.order c.renew.new.self c.args.item c.place-place.result
     c.self.invariant (subst (λ (m : Mailed). ComesLast m c.args.item.number c.args.item.key) (sym c.self.view_is) c.requires.last)
     c.put.ensures.whole c.in_ok-put.ensures.ok c.place-place.ensures c.in-Some.old
-    (subst (λ (q : Place). Some c.in-Some.old ≡ option_map place_of (item_at c.self.inside.boxes q.key)) (sym c.place-place.ensures) at)
+    (subst (λ (q : ItemPlace). Some c.in-Some.old ≡ option_map place_of (item_at c.self.inside.boxes q.key)) (sym c.place-place.ensures) at)
     c.renew.ensures)
 
 pub returns-clause-ok : goal.returns-clause-ok
@@ -68,6 +68,6 @@ returns-clause-ok g c =
     (filed_put_again _ c.self.inside.boxes c.put.new.self c.self.inside.order c.renew.new.self c.args.item c.place-place.result c.self.invariant
     (subst (λ (m : Mailed). ComesLast m c.args.item.number c.args.item.key) (sym c.self.view_is) c.requires.last) c.put.ensures.whole
     c.in_ok-put.ensures.ok c.place-place.ensures c.in-Some.old
-    (subst (λ (q : Place). Some c.in-Some.old ≡ option_map place_of (item_at c.self.inside.boxes q.key)) (sym c.place-place.ensures) at)
+    (subst (λ (q : ItemPlace). Some c.in-Some.old ≡ option_map place_of (item_at c.self.inside.boxes q.key)) (sym c.place-place.ensures) at)
     c.renew.ensures) in
     rw (← c.self.view_is) (λ i. record { room = c.self.inside.room; items = is i })

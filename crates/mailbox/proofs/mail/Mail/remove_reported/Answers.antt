@@ -7,8 +7,8 @@ use Rattle.mailbox.proofs.mail.Mail.remove_reported.Goals as goal
 
 pub returns-then-ends : goal.returns-then-ends
 returns-then-ends g c =
-    c.remove_at.ensures ∙ ap (λ k. without (is_at k) c.args.self.now) c.answered.ensures
-    ∙ removed_if (answered c.args.envelope.now Message) (λ w. ends_request c.args.status (request_of w.pdu)) c.args.self.now c.hold_order.ensures.apart (sym c.requires.ends ∙ c.if-ends.true)
+    c.remove_at.ensures ∙ ap (λ k. without (is_at k) c.args.self.now) c.answered_key.ensures
+    ∙ removed_if (answered c.args.envelope.now Message) (λ w. ends_request c.args.status (request_of w.pdu)) c.args.self.now c.facts_of_order.ensures.apart (sym c.requires.ends ∙ c.if-ends.true)
 
 pub returns-else-ends : goal.returns-else-ends
 returns-else-ends g c = unchanged_if (answered c.args.envelope.now Message) (λ w. ends_request c.args.status (request_of w.pdu)) c.args.self.now (sym c.requires.ends ∙ c.if-ends.false)

@@ -402,8 +402,8 @@ invariant_of-self g c =
       stored = in_call true refl;
     }
 
-pub keep-requires : goal.keep-requires
-keep-requires g c = record {
+pub persist-requires : goal.persist-requires
+persist-requires g c = record {
   in_call = search rules;
   few = search rules;
   fits = fewer_fit g.row.A.Denot c.args.self.now.journal c.deref.result.now c.apply_all.new.accepted.items c.args.commands.now
@@ -417,28 +417,28 @@ keep-requires g c = record {
       (length c.apply_all.new.accepted.items) (omega (arith, c.apply_all.ensures.accepted.counted)));
 }
 
-pub returns-in_err-keep-clause-keeps : goal.returns-in_err-keep-clause-keeps
-returns-in_err-keep-clause-keeps g c = record {
+pub returns-in_err-persist-clause-keeps : goal.returns-in_err-persist-clause-keeps
+returns-in_err-persist-clause-keeps g c = record {
   fault = search rules;
   sectors = search rules;
   later = search rules;
   honest = search rules;
 }
 
-pub returns-in_err-keep-clause-answers : goal.returns-in_err-keep-clause-answers
-returns-in_err-keep-clause-answers g c = record {
+pub returns-in_err-persist-clause-answers : goal.returns-in_err-persist-clause-answers
+returns-in_err-persist-clause-answers g c = record {
   outcomes = search rules;
   sound = search rules;
   register =
-      on_err _ (inr (batch_done c.args.self.now.register c.args.self.now.register c.apply_all.new.register c.keep.new.self.register
-      (asked c.args.commands.now) c.apply_all.new.outcomes.items refl c.keep.ensures.steps.same.1 c.apply_all.ensures.answered));
+      on_err _ (inr (batch_done c.args.self.now.register c.args.self.now.register c.apply_all.new.register c.persist.new.self.register
+      (asked c.args.commands.now) c.apply_all.new.outcomes.items refl c.persist.ensures.steps.same.1 c.apply_all.ensures.answered));
   empty = search rules;
   at_once = search rules;
   idle = search rules;
 }
 
-pub returns-in_err-keep-clause-refuses : goal.returns-in_err-keep-clause-refuses
-returns-in_err-keep-clause-refuses g c = record {
+pub returns-in_err-persist-clause-refuses : goal.returns-in_err-persist-clause-refuses
+returns-in_err-persist-clause-refuses g c = record {
   broken = search rules;
   only_broken = search rules;
   unready = search rules;
@@ -448,38 +448,38 @@ returns-in_err-keep-clause-refuses g c = record {
   kinds = search rules;
 }
 
-pub returns-in_err-keep-clause-calls : goal.returns-in_err-keep-clause-calls
-returns-in_err-keep-clause-calls g c = record {
+pub returns-in_err-persist-clause-calls : goal.returns-in_err-persist-clause-calls
+returns-in_err-persist-clause-calls g c = record {
   calls = search rules;
   some_calls = λ honest.
       let self = c.args.self.now in
       let these = given g.row.A.Denot c.deref.result.now in
-      let recorded = recorded_after g.row.A.Denot self.register self.register c.apply_all.new.register c.keep.new.self.register
-      (asked c.args.commands.now) c.deref.result.now c.apply_all.new.accepted.items refl c.deref.ensures.value c.keep.ensures.steps.same.1
+      let recorded = recorded_after g.row.A.Denot self.register self.register c.apply_all.new.register c.persist.new.self.register
+      (asked c.args.commands.now) c.deref.result.now c.apply_all.new.accepted.items refl c.deref.ensures.value c.persist.ensures.steps.same.1
       c.apply_all.ensures.accepted.recorded in
-      let some = c.keep.ensures.calls.some_calls honest in
+      let some = c.persist.ensures.calls.some_calls honest in
       (these, some.0, recorded, some.1, some.2);
   calls_on_any_disk = search rules;
   some_calls_on_any_disk =
       let self = c.args.self.now in
       let these = given g.row.A.Denot c.deref.result.now in
-      let recorded = recorded_after g.row.A.Denot self.register self.register c.apply_all.new.register c.keep.new.self.register
-      (asked c.args.commands.now) c.deref.result.now c.apply_all.new.accepted.items refl c.deref.ensures.value c.keep.ensures.steps.same.1
+      let recorded = recorded_after g.row.A.Denot self.register self.register c.apply_all.new.register c.persist.new.self.register
+      (asked c.args.commands.now) c.deref.result.now c.apply_all.new.accepted.items refl c.deref.ensures.value c.persist.ensures.steps.same.1
       c.apply_all.ensures.accepted.recorded in
-      let some = c.keep.ensures.calls.some_calls_on_any_disk in
+      let some = c.persist.ensures.calls.some_calls_on_any_disk in
       (these, some.0, some.1, recorded, some.2, some.3);
 }
 
-pub returns-in_err-keep-clause-on_disk : goal.returns-in_err-keep-clause-on_disk
-returns-in_err-keep-clause-on_disk g c =
-    let any : StopsLeave g.row.A.Denot g.D.Disk.view (view_of c.args.self.now) (view_of c.keep.new.self)
-    (OpensToEither g.row.A.Denot c.args.self.now.register c.keep.new.self.register) = λ honest stored.
+pub returns-in_err-persist-clause-on_disk : goal.returns-in_err-persist-clause-on_disk
+returns-in_err-persist-clause-on_disk g c =
+    let any : StopsLeave g.row.A.Denot g.D.Disk.view (view_of c.args.self.now) (view_of c.persist.new.self)
+    (OpensToEither g.row.A.Denot c.args.self.now.register c.persist.new.self.register) = λ honest stored.
     let s = c.args.self.now.register in
     let t = c.apply_all.new.register in
     let history = batch_history s t c.deref.result.now c.apply_all.new.accepted.items c.deref.ensures.value c.apply_all.ensures.accepted.history in
     let made = batch_made s t c.deref.result.now c.apply_all.new.accepted.items c.deref.ensures.value c.apply_all.ensures.accepted.state in
-    batch_leaves g.row.A.Denot s t c.keep.new.self.register c.keep.ensures.steps.same.1 (g.D.Disk.view c.args.self.now.disk)
-    (g.D.Disk.view c.keep.new.self.disk) (c.keep.ensures.on_disk.any_moment s history made honest stored) in
+    batch_leaves g.row.A.Denot s t c.persist.new.self.register c.persist.ensures.steps.same.1 (g.D.Disk.view c.args.self.now.disk)
+    (g.D.Disk.view c.persist.new.self.disk) (c.persist.ensures.on_disk.any_moment s history made honest stored) in
     record {
       any_moment = any;
       kept = search rules;
@@ -487,10 +487,10 @@ returns-in_err-keep-clause-on_disk g c =
       answered = search rules;
       unanswered =
           let call : (g.D.Disk.view c.args.self.now.disk).honest → IsUnansweredCall g.row.A.Denot g.D.Disk.view (view_of c.args.self.now) (asked c.args.commands.now)
-          (view_of c.keep.new.self) = λ honest.
-          is_unanswered g.row.A.Denot g.D.Disk.view (view_of c.args.self.now) (view_of c.keep.new.self) (asked c.args.commands.now) (c.keep.ensures.steps.honest honest)
-          (any honest) (λ whole stored. absurd (true≢false (sym c.keep.ensures.steps.in_call ∙ whole))) c.if-self.false
-          ((returns-in_err-keep-clause-calls g c).some_calls honest).0 ((returns-in_err-keep-clause-calls g c).some_calls honest).2 in
+          (view_of c.persist.new.self) = λ honest.
+          is_unanswered g.row.A.Denot g.D.Disk.view (view_of c.args.self.now) (view_of c.persist.new.self) (asked c.args.commands.now) (c.persist.ensures.steps.honest honest)
+          (any honest) (λ whole stored. absurd (true≢false (sym c.persist.ensures.steps.in_call ∙ whole))) c.if-self.false
+          ((returns-in_err-persist-clause-calls g c).some_calls honest).0 ((returns-in_err-persist-clause-calls g c).some_calls honest).2 in
           on_err _ call;
     }
 
@@ -500,7 +500,7 @@ invariant_of-self-2 g c =
     let t = c.apply_all.new.register in
     let history = batch_history s t c.deref.result.now c.apply_all.new.accepted.items c.deref.ensures.value c.apply_all.ensures.accepted.history in
     let made = batch_made s t c.deref.result.now c.apply_all.new.accepted.items c.deref.ensures.value c.apply_all.ensures.accepted.state in
-    let self = c.keep.new.self in
+    let self = c.persist.new.self in
     record {
       room = self.room;
       limits = self.limits;
@@ -510,10 +510,10 @@ invariant_of-self-2 g c =
       counts = self.counts;
       other = self.other;
       stored = ∥∥₁_map c.args.self.now.stored (λ is whole found.
-          let was = is c.if-self.false (subst (λ (disk : g.row.D.Denot). (g.D.Disk.view disk).honest) c.keep.ensures.steps.same.3 found) in (
-            c.keep.ensures.steps.honest was.0,
+          let was = is c.if-self.false (subst (λ (disk : g.row.D.Denot). (g.D.Disk.view disk).honest) c.persist.ensures.steps.same.3 found) in (
+            c.persist.ensures.steps.honest was.0,
             batch_kept g.row.A.Denot self.layout self.side self.epoch self.journal self.ongoing t self.register (g.D.Disk.view self.disk)
-                c.keep.ensures.steps.same.1 (c.in_ok-keep.ensures.on_disk.kept s history made was.0 was.1),
+                c.persist.ensures.steps.same.1 (c.in_ok-persist.ensures.on_disk.kept s history made was.0 was.1),
           ));
     }
 
@@ -551,70 +551,70 @@ returns-clause-calls g c = record {
   calls = λ honest.
       let self = c.args.self.now in
       let these = given g.row.A.Denot c.deref.result.now in
-      let recorded = recorded_after g.row.A.Denot self.register self.register c.apply_all.new.register c.keep.new.self.register
-      (asked c.args.commands.now) c.deref.result.now c.apply_all.new.accepted.items refl c.deref.ensures.value c.keep.ensures.steps.same.1
+      let recorded = recorded_after g.row.A.Denot self.register self.register c.apply_all.new.register c.persist.new.self.register
+      (asked c.args.commands.now) c.deref.result.now c.apply_all.new.accepted.items refl c.deref.ensures.value c.persist.ensures.steps.same.1
       c.apply_all.ensures.accepted.recorded in
-      let kept = kept_from _ (view_of self) (view_of c.keep.new.self) these c.in_ok-keep.ensures.on_disk.goes refl refl refl refl refl in
-      let last = kept_so (view_of c.keep.new.self) false (view_of self) these kept in
-      (these, recorded, last, c.in_ok-keep.ensures.calls.calls honest);
+      let kept = kept_from _ (view_of self) (view_of c.persist.new.self) these c.in_ok-persist.ensures.on_disk.goes refl refl refl refl refl in
+      let last = kept_so (view_of c.persist.new.self) false (view_of self) these kept in
+      (these, recorded, last, c.in_ok-persist.ensures.calls.calls honest);
   some_calls = λ honest.
       let self = c.args.self.now in
       let these = given g.row.A.Denot c.deref.result.now in
-      let recorded = recorded_after g.row.A.Denot self.register self.register c.apply_all.new.register c.keep.new.self.register
-      (asked c.args.commands.now) c.deref.result.now c.apply_all.new.accepted.items refl c.deref.ensures.value c.keep.ensures.steps.same.1
+      let recorded = recorded_after g.row.A.Denot self.register self.register c.apply_all.new.register c.persist.new.self.register
+      (asked c.args.commands.now) c.deref.result.now c.apply_all.new.accepted.items refl c.deref.ensures.value c.persist.ensures.steps.same.1
       c.apply_all.ensures.accepted.recorded in
-      let some = c.keep.ensures.calls.some_calls honest in
+      let some = c.persist.ensures.calls.some_calls honest in
       (these, some.0, recorded, some.1, some.2);
   calls_on_any_disk =
       let self = c.args.self.now in
       let these = given g.row.A.Denot c.deref.result.now in
-      let recorded = recorded_after g.row.A.Denot self.register self.register c.apply_all.new.register c.keep.new.self.register
-      (asked c.args.commands.now) c.deref.result.now c.apply_all.new.accepted.items refl c.deref.ensures.value c.keep.ensures.steps.same.1
+      let recorded = recorded_after g.row.A.Denot self.register self.register c.apply_all.new.register c.persist.new.self.register
+      (asked c.args.commands.now) c.deref.result.now c.apply_all.new.accepted.items refl c.deref.ensures.value c.persist.ensures.steps.same.1
       c.apply_all.ensures.accepted.recorded in
-      let kept = kept_from _ (view_of self) (view_of c.keep.new.self) these c.in_ok-keep.ensures.on_disk.goes refl refl refl refl refl in
-      let last = kept_so (view_of c.keep.new.self) false (view_of self) these kept in
-      let all = c.in_ok-keep.ensures.calls.calls_on_any_disk in
+      let kept = kept_from _ (view_of self) (view_of c.persist.new.self) these c.in_ok-persist.ensures.on_disk.goes refl refl refl refl refl in
+      let last = kept_so (view_of c.persist.new.self) false (view_of self) these kept in
+      let all = c.in_ok-persist.ensures.calls.calls_on_any_disk in
       (these, all.0, recorded, last, all.1);
   some_calls_on_any_disk =
       let self = c.args.self.now in
       let these = given g.row.A.Denot c.deref.result.now in
-      let recorded = recorded_after g.row.A.Denot self.register self.register c.apply_all.new.register c.keep.new.self.register
-      (asked c.args.commands.now) c.deref.result.now c.apply_all.new.accepted.items refl c.deref.ensures.value c.keep.ensures.steps.same.1
+      let recorded = recorded_after g.row.A.Denot self.register self.register c.apply_all.new.register c.persist.new.self.register
+      (asked c.args.commands.now) c.deref.result.now c.apply_all.new.accepted.items refl c.deref.ensures.value c.persist.ensures.steps.same.1
       c.apply_all.ensures.accepted.recorded in
-      let some = c.keep.ensures.calls.some_calls_on_any_disk in
+      let some = c.persist.ensures.calls.some_calls_on_any_disk in
       (these, some.0, some.1, recorded, some.2, some.3);
 }
 
 pub returns-clause-on_disk : goal.returns-clause-on_disk
 returns-clause-on_disk g c =
-    let any : StopsLeave g.row.A.Denot g.D.Disk.view (view_of c.args.self.now) (record (view_of c.keep.new.self) { broken = false })
-    (OpensToEither g.row.A.Denot c.args.self.now.register c.keep.new.self.register) = λ honest stored.
+    let any : StopsLeave g.row.A.Denot g.D.Disk.view (view_of c.args.self.now) (record (view_of c.persist.new.self) { broken = false })
+    (OpensToEither g.row.A.Denot c.args.self.now.register c.persist.new.self.register) = λ honest stored.
     let s = c.args.self.now.register in
     let t = c.apply_all.new.register in
     let history = batch_history s t c.deref.result.now c.apply_all.new.accepted.items c.deref.ensures.value c.apply_all.ensures.accepted.history in
     let made = batch_made s t c.deref.result.now c.apply_all.new.accepted.items c.deref.ensures.value c.apply_all.ensures.accepted.state in
-    batch_leaves g.row.A.Denot s t c.keep.new.self.register c.keep.ensures.steps.same.1 (g.D.Disk.view c.args.self.now.disk)
-    (g.D.Disk.view c.keep.new.self.disk) (c.keep.ensures.on_disk.any_moment s history made honest stored) in
-    let stays : StaysKept g.row.A.Denot g.D.Disk.view (view_of c.args.self.now) (record (view_of c.keep.new.self) { broken = false }) = λ honest stored.
+    batch_leaves g.row.A.Denot s t c.persist.new.self.register c.persist.ensures.steps.same.1 (g.D.Disk.view c.args.self.now.disk)
+    (g.D.Disk.view c.persist.new.self.disk) (c.persist.ensures.on_disk.any_moment s history made honest stored) in
+    let stays : StaysKept g.row.A.Denot g.D.Disk.view (view_of c.args.self.now) (record (view_of c.persist.new.self) { broken = false }) = λ honest stored.
     let s = c.args.self.now.register in
     let t = c.apply_all.new.register in
     let history = batch_history s t c.deref.result.now c.apply_all.new.accepted.items c.deref.ensures.value c.apply_all.ensures.accepted.history in
     let made = batch_made s t c.deref.result.now c.apply_all.new.accepted.items c.deref.ensures.value c.apply_all.ensures.accepted.state in
-    let self = c.keep.new.self in
+    let self = c.persist.new.self in
     batch_kept g.row.A.Denot self.layout self.side self.epoch self.journal self.ongoing t self.register (g.D.Disk.view self.disk)
-    c.keep.ensures.steps.same.1 (c.in_ok-keep.ensures.on_disk.kept s history made honest stored) in
+    c.persist.ensures.steps.same.1 (c.in_ok-persist.ensures.on_disk.kept s history made honest stored) in
     record {
       any_moment = any;
       kept = stays;
       acknowledged = λ honest stored.
-          let self = c.keep.new.self in
+          let self = c.persist.new.self in
           stored_opens g.row.A.Denot self.layout self.side self.epoch self.journal self.register (g.D.Disk.view self.disk) (stays honest stored).stored;
       answered = λ honest.
-          is_answered g.row.A.Denot g.D.Disk.view (view_of c.args.self.now) (record (view_of c.keep.new.self) { broken = false }) (asked c.args.commands.now) (c.keep.ensures.steps.honest honest)
+          is_answered g.row.A.Denot g.D.Disk.view (view_of c.args.self.now) (record (view_of c.persist.new.self) { broken = false }) (asked c.args.commands.now) (c.persist.ensures.steps.honest honest)
           (any honest) (λ whole. stays honest) c.if-self.false
           c.apply_all.new.outcomes.items
-          (answered_later c.args.self.now.register c.args.self.now.register c.apply_all.new.register c.keep.new.self.register (asked c.args.commands.now)
-          c.apply_all.new.outcomes.items refl c.keep.ensures.steps.same.1 c.apply_all.ensures.answered)
+          (answered_later c.args.self.now.register c.args.self.now.register c.apply_all.new.register c.persist.new.self.register (asked c.args.commands.now)
+          c.apply_all.new.outcomes.items refl c.persist.ensures.steps.same.1 c.apply_all.ensures.answered)
           refl;
       unanswered = search rules;
     }

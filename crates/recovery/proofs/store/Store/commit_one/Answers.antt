@@ -192,8 +192,8 @@ invariant_of-self g c =
       stored = in_call true refl;
     }
 
-pub keep-requires : goal.keep-requires
-keep-requires g c = record {
+pub persist-requires : goal.persist-requires
+persist-requires g c = record {
   in_call = search rules;
   few = few_kept (is_acceptance c.in-Ok.reply) c.args.command c.if_accepted.result.now c.if_accepted.ensures;
   fits =
@@ -217,10 +217,10 @@ keep-requires g c = record {
       (omega (arith, ends_counted m t (c.args.command ∷ []) kept one ends));
 }
 
-pub returns-in_err-keep-clause-on_disk : goal.returns-in_err-keep-clause-on_disk
-returns-in_err-keep-clause-on_disk g c = record {
+pub returns-in_err-persist-clause-on_disk : goal.returns-in_err-persist-clause-on_disk
+returns-in_err-persist-clause-on_disk g c = record {
   register = after_one c.make_room.new.self.register c.apply.new.self c.in-Ok.reply c.args.command.now c.in-Ok.ensures.ok
-      c.args.self.now.register c.keep.new.self.register c.make_room.ensures.stays.same.1 c.keep.ensures.steps.same.1;
+      c.args.self.now.register c.persist.new.self.register c.make_room.ensures.stays.same.1 c.persist.ensures.steps.same.1;
   any_moment = λ honest stored.
       let self = c.args.self.now in
       let m = c.make_room.new.self.register in
@@ -228,15 +228,15 @@ returns-in_err-keep-clause-on_disk g c = record {
       let kept = c.if_accepted.result.now in
       let one = Replied c.in-Ok.reply ∷ [] in
       let ends = one_ends m t c.in-Ok.reply c.args.command.now c.in-Ok.ensures.ok c.args.command kept refl c.if_accepted.ensures in
-      desk_leaves g.row.A.Denot self.register m t c.keep.new.self.register c.make_room.ensures.stays.same.1 c.keep.ensures.steps.same.1
-      (g.D.Disk.view self.disk) (g.D.Disk.view c.make_room.new.self.disk) (g.D.Disk.view c.keep.new.self.disk) (c.make_room.ensures.on_disk.any_moment honest stored)
-      (c.keep.ensures.on_disk.any_moment m (ends_history m t (c.args.command ∷ []) kept one ends) (ends_state m t (c.args.command ∷ []) kept one ends)
+      desk_leaves g.row.A.Denot self.register m t c.persist.new.self.register c.make_room.ensures.stays.same.1 c.persist.ensures.steps.same.1
+      (g.D.Disk.view self.disk) (g.D.Disk.view c.make_room.new.self.disk) (g.D.Disk.view c.persist.new.self.disk) (c.make_room.ensures.on_disk.any_moment honest stored)
+      (c.persist.ensures.on_disk.any_moment m (ends_history m t (c.args.command ∷ []) kept one ends) (ends_state m t (c.args.command ∷ []) kept one ends)
       (c.make_room.ensures.keeps.honest honest) (c.in_ok-make_room.ensures.on_disk.kept honest stored));
   kept = search rules;
 }
 
-pub returns-in_err-keep-clause-calls : goal.returns-in_err-keep-clause-calls
-returns-in_err-keep-clause-calls g c = record {
+pub returns-in_err-persist-clause-calls : goal.returns-in_err-persist-clause-calls
+returns-in_err-persist-clause-calls g c = record {
   calls = search rules;
   some_calls = λ honest.
       let self = c.args.self.now in
@@ -250,16 +250,16 @@ returns-in_err-keep-clause-calls g c = record {
       let now = with_room fits (view_of self) in
       let old = g.D.Disk.view self.disk in
       let mid = g.D.Disk.view room.disk in
-      let new = g.D.Disk.view c.keep.new.self.disk in
+      let new = g.D.Disk.view c.persist.new.self.disk in
       let these = given g.row.A.Denot kept in
-      let recorded = recorded_after g.row.A.Denot self.register m t c.keep.new.self.register (c.args.command.now ∷ []) kept kept
-      c.make_room.ensures.stays.same.1 refl c.keep.ensures.steps.same.1 (ends_recorded m t (c.args.command ∷ []) kept one ends g.row.A.Denot) in
+      let recorded = recorded_after g.row.A.Denot self.register m t c.persist.new.self.register (c.args.command.now ∷ []) kept kept
+      c.make_room.ensures.stays.same.1 refl c.persist.ensures.steps.same.1 (ends_recorded m t (c.args.command ∷ []) kept one ends g.row.A.Denot) in
       let place = c.in_ok-make_room.ensures.place in
       let was_open = is_root_open (other_of self.side) old.reads in
       let also = is_root_open (other_of room.side) mid.reads in
       let same : fits ≡ true → also ≡ was_open = λ is. ap (λ store. is_root_open (other_of store.side) (g.D.Disk.view store.disk).reads)
       (c.make_room.ensures.untouched (it_fits g.row.A.Denot self.journal (c.args.command ∷ []) is)).1 in
-      let some = c.keep.ensures.calls.some_calls (c.make_room.ensures.keeps.honest honest) in (
+      let some = c.persist.ensures.calls.some_calls (c.make_room.ensures.keeps.honest honest) in (
         these,
         some.0,
         also,
@@ -281,13 +281,13 @@ returns-in_err-keep-clause-calls g c = record {
       let now = with_room fits (view_of self) in
       let old = g.D.Disk.view self.disk in
       let mid = g.D.Disk.view room.disk in
-      let new = g.D.Disk.view c.keep.new.self.disk in
+      let new = g.D.Disk.view c.persist.new.self.disk in
       let these = given g.row.A.Denot kept in
-      let recorded = recorded_after g.row.A.Denot self.register m t c.keep.new.self.register (c.args.command.now ∷ []) kept kept
-      c.make_room.ensures.stays.same.1 refl c.keep.ensures.steps.same.1 (ends_recorded m t (c.args.command ∷ []) kept one ends g.row.A.Denot) in
+      let recorded = recorded_after g.row.A.Denot self.register m t c.persist.new.self.register (c.args.command.now ∷ []) kept kept
+      c.make_room.ensures.stays.same.1 refl c.persist.ensures.steps.same.1 (ends_recorded m t (c.args.command ∷ []) kept one ends g.row.A.Denot) in
       let place = c.in_ok-make_room.ensures.place in
       let all = c.in_ok-make_room.ensures.calls.calls_on_any_disk in
-      let some = c.keep.ensures.calls.some_calls_on_any_disk in (
+      let some = c.persist.ensures.calls.some_calls_on_any_disk in (
         these,
         some.0,
         all.0,
@@ -299,8 +299,8 @@ returns-in_err-keep-clause-calls g c = record {
       );
 }
 
-pub returns-in_err-keep-clause-refuses : goal.returns-in_err-keep-clause-refuses
-returns-in_err-keep-clause-refuses g c = record {
+pub returns-in_err-persist-clause-refuses : goal.returns-in_err-persist-clause-refuses
+returns-in_err-persist-clause-refuses g c = record {
   broken = search rules;
   only_broken = search rules;
   sound = search rules;
@@ -315,7 +315,7 @@ returns-in_err-keep-clause-refuses g c = record {
 pub returns-clause-on_disk : goal.returns-clause-on_disk
 returns-clause-on_disk g c = record {
   register = after_one c.make_room.new.self.register c.apply.new.self c.in-Ok.reply c.args.command.now c.in-Ok.ensures.ok
-      c.args.self.now.register c.keep.new.self.register c.make_room.ensures.stays.same.1 c.keep.ensures.steps.same.1;
+      c.args.self.now.register c.persist.new.self.register c.make_room.ensures.stays.same.1 c.persist.ensures.steps.same.1;
   any_moment = λ honest stored.
       let self = c.args.self.now in
       let m = c.make_room.new.self.register in
@@ -323,9 +323,9 @@ returns-clause-on_disk g c = record {
       let kept = c.if_accepted.result.now in
       let one = Replied c.in-Ok.reply ∷ [] in
       let ends = one_ends m t c.in-Ok.reply c.args.command.now c.in-Ok.ensures.ok c.args.command kept refl c.if_accepted.ensures in
-      desk_leaves g.row.A.Denot self.register m t c.keep.new.self.register c.make_room.ensures.stays.same.1 c.keep.ensures.steps.same.1
-      (g.D.Disk.view self.disk) (g.D.Disk.view c.make_room.new.self.disk) (g.D.Disk.view c.keep.new.self.disk) (c.make_room.ensures.on_disk.any_moment honest stored)
-      (c.keep.ensures.on_disk.any_moment m (ends_history m t (c.args.command ∷ []) kept one ends) (ends_state m t (c.args.command ∷ []) kept one ends)
+      desk_leaves g.row.A.Denot self.register m t c.persist.new.self.register c.make_room.ensures.stays.same.1 c.persist.ensures.steps.same.1
+      (g.D.Disk.view self.disk) (g.D.Disk.view c.make_room.new.self.disk) (g.D.Disk.view c.persist.new.self.disk) (c.make_room.ensures.on_disk.any_moment honest stored)
+      (c.persist.ensures.on_disk.any_moment m (ends_history m t (c.args.command ∷ []) kept one ends) (ends_state m t (c.args.command ∷ []) kept one ends)
       (c.make_room.ensures.keeps.honest honest) (c.in_ok-make_room.ensures.on_disk.kept honest stored));
   kept = λ sound honest stored.
       let m = c.make_room.new.self.register in
@@ -333,9 +333,9 @@ returns-clause-on_disk g c = record {
       let kept = c.if_accepted.result.now in
       let one = Replied c.in-Ok.reply ∷ [] in
       let ends = one_ends m t c.in-Ok.reply c.args.command.now c.in-Ok.ensures.ok c.args.command kept refl c.if_accepted.ensures in
-      let new = c.keep.new.self in
-      batch_kept g.row.A.Denot new.layout new.side new.epoch new.journal new.ongoing t new.register (g.D.Disk.view new.disk) c.keep.ensures.steps.same.1
-      (c.in_ok-keep.ensures.on_disk.kept m (ends_history m t (c.args.command ∷ []) kept one ends) (ends_state m t (c.args.command ∷ []) kept one ends)
+      let new = c.persist.new.self in
+      batch_kept g.row.A.Denot new.layout new.side new.epoch new.journal new.ongoing t new.register (g.D.Disk.view new.disk) c.persist.ensures.steps.same.1
+      (c.in_ok-persist.ensures.on_disk.kept m (ends_history m t (c.args.command ∷ []) kept one ends) (ends_state m t (c.args.command ∷ []) kept one ends)
       (c.make_room.ensures.keeps.honest honest) (c.in_ok-make_room.ensures.on_disk.kept honest stored));
 }
 
@@ -353,24 +353,24 @@ returns-clause-calls g c = record {
       let now = with_room fits (view_of self) in
       let old = g.D.Disk.view self.disk in
       let mid = g.D.Disk.view room.disk in
-      let new = g.D.Disk.view c.keep.new.self.disk in
+      let new = g.D.Disk.view c.persist.new.self.disk in
       let these = given g.row.A.Denot kept in
-      let recorded = recorded_after g.row.A.Denot self.register m t c.keep.new.self.register (c.args.command.now ∷ []) kept kept
-      c.make_room.ensures.stays.same.1 refl c.keep.ensures.steps.same.1 (ends_recorded m t (c.args.command ∷ []) kept one ends g.row.A.Denot) in
+      let recorded = recorded_after g.row.A.Denot self.register m t c.persist.new.self.register (c.args.command.now ∷ []) kept kept
+      c.make_room.ensures.stays.same.1 refl c.persist.ensures.steps.same.1 (ends_recorded m t (c.args.command ∷ []) kept one ends g.row.A.Denot) in
       let place = c.in_ok-make_room.ensures.place in
       let was_open = is_root_open (other_of self.side) old.reads in
       let also = is_root_open (other_of room.side) mid.reads in
       let same : fits ≡ true → also ≡ was_open = λ is. ap (λ store. is_root_open (other_of store.side) (g.D.Disk.view store.disk).reads)
       (c.make_room.ensures.untouched (it_fits g.row.A.Denot self.journal (c.args.command ∷ []) is)).1 in
-      let begins = is_some c.keep.new.self.ongoing in (
+      let begins = is_some c.persist.new.self.ongoing in (
         these,
         also,
         recorded,
-        room_kept (view_of room) (view_of self) fits c.make_room.ensures.stays.same.0 place these (record (view_of c.keep.new.self) { broken = false })
-            (kept_so (view_of c.keep.new.self) false (view_of room) these (kept_from _ (view_of room) (view_of c.keep.new.self) these c.in_ok-keep.ensures.on_disk.goes refl refl refl refl refl)),
+        room_kept (view_of room) (view_of self) fits c.make_room.ensures.stays.same.0 place these (record (view_of c.persist.new.self) { broken = false })
+            (kept_so (view_of c.persist.new.self) false (view_of room) these (kept_from _ (view_of room) (view_of c.persist.new.self) these c.in_ok-persist.ensures.on_disk.goes refl refl refl refl refl)),
         made_then old mid new (room_calls self.layout self.side self.epoch self.register old.reads fits) _ _ (c.in_ok-make_room.ensures.calls.calls honest)
             (room_calls_read (view_of room) (view_of self) fits c.make_room.ensures.stays.same.0 place these begins was_open also same)
-            (c.in_ok-keep.ensures.calls.calls (c.make_room.ensures.keeps.honest honest)),
+            (c.in_ok-persist.ensures.calls.calls (c.make_room.ensures.keeps.honest honest)),
       );
   some_calls = λ honest.
       let self = c.args.self.now in
@@ -384,16 +384,16 @@ returns-clause-calls g c = record {
       let now = with_room fits (view_of self) in
       let old = g.D.Disk.view self.disk in
       let mid = g.D.Disk.view room.disk in
-      let new = g.D.Disk.view c.keep.new.self.disk in
+      let new = g.D.Disk.view c.persist.new.self.disk in
       let these = given g.row.A.Denot kept in
-      let recorded = recorded_after g.row.A.Denot self.register m t c.keep.new.self.register (c.args.command.now ∷ []) kept kept
-      c.make_room.ensures.stays.same.1 refl c.keep.ensures.steps.same.1 (ends_recorded m t (c.args.command ∷ []) kept one ends g.row.A.Denot) in
+      let recorded = recorded_after g.row.A.Denot self.register m t c.persist.new.self.register (c.args.command.now ∷ []) kept kept
+      c.make_room.ensures.stays.same.1 refl c.persist.ensures.steps.same.1 (ends_recorded m t (c.args.command ∷ []) kept one ends g.row.A.Denot) in
       let place = c.in_ok-make_room.ensures.place in
       let was_open = is_root_open (other_of self.side) old.reads in
       let also = is_root_open (other_of room.side) mid.reads in
       let same : fits ≡ true → also ≡ was_open = λ is. ap (λ store. is_root_open (other_of store.side) (g.D.Disk.view store.disk).reads)
       (c.make_room.ensures.untouched (it_fits g.row.A.Denot self.journal (c.args.command ∷ []) is)).1 in
-      let some = c.keep.ensures.calls.some_calls (c.make_room.ensures.keeps.honest honest) in (
+      let some = c.persist.ensures.calls.some_calls (c.make_room.ensures.keeps.honest honest) in (
         these,
         some.0,
         also,
@@ -414,20 +414,20 @@ returns-clause-calls g c = record {
       let now = with_room fits (view_of self) in
       let old = g.D.Disk.view self.disk in
       let mid = g.D.Disk.view room.disk in
-      let new = g.D.Disk.view c.keep.new.self.disk in
+      let new = g.D.Disk.view c.persist.new.self.disk in
       let these = given g.row.A.Denot kept in
-      let recorded = recorded_after g.row.A.Denot self.register m t c.keep.new.self.register (c.args.command.now ∷ []) kept kept
-      c.make_room.ensures.stays.same.1 refl c.keep.ensures.steps.same.1 (ends_recorded m t (c.args.command ∷ []) kept one ends g.row.A.Denot) in
+      let recorded = recorded_after g.row.A.Denot self.register m t c.persist.new.self.register (c.args.command.now ∷ []) kept kept
+      c.make_room.ensures.stays.same.1 refl c.persist.ensures.steps.same.1 (ends_recorded m t (c.args.command ∷ []) kept one ends g.row.A.Denot) in
       let place = c.in_ok-make_room.ensures.place in
-      let begins = is_some c.keep.new.self.ongoing in
+      let begins = is_some c.persist.new.self.ongoing in
       let all = c.in_ok-make_room.ensures.calls.calls_on_any_disk in
-      let also = c.in_ok-keep.ensures.calls.calls_on_any_disk in (
+      let also = c.in_ok-persist.ensures.calls.calls_on_any_disk in (
         these,
         all.0,
         also.0,
         recorded,
-        room_kept (view_of room) (view_of self) fits c.make_room.ensures.stays.same.0 place these (record (view_of c.keep.new.self) { broken = false })
-            (kept_so (view_of c.keep.new.self) false (view_of room) these (kept_from _ (view_of room) (view_of c.keep.new.self) these c.in_ok-keep.ensures.on_disk.goes refl refl refl refl refl)),
+        room_kept (view_of room) (view_of self) fits c.make_room.ensures.stays.same.0 place these (record (view_of c.persist.new.self) { broken = false })
+            (kept_so (view_of c.persist.new.self) false (view_of room) these (kept_from _ (view_of room) (view_of c.persist.new.self) these c.in_ok-persist.ensures.on_disk.goes refl refl refl refl refl)),
         made_then old mid new (room_calls_by self.layout self.side self.epoch self.register all.0 fits) _ _ all.1
             (room_calls_are (view_of room) (view_of self) fits c.make_room.ensures.stays.same.0 place these begins also.0) also.1,
       );
@@ -443,13 +443,13 @@ returns-clause-calls g c = record {
       let now = with_room fits (view_of self) in
       let old = g.D.Disk.view self.disk in
       let mid = g.D.Disk.view room.disk in
-      let new = g.D.Disk.view c.keep.new.self.disk in
+      let new = g.D.Disk.view c.persist.new.self.disk in
       let these = given g.row.A.Denot kept in
-      let recorded = recorded_after g.row.A.Denot self.register m t c.keep.new.self.register (c.args.command.now ∷ []) kept kept
-      c.make_room.ensures.stays.same.1 refl c.keep.ensures.steps.same.1 (ends_recorded m t (c.args.command ∷ []) kept one ends g.row.A.Denot) in
+      let recorded = recorded_after g.row.A.Denot self.register m t c.persist.new.self.register (c.args.command.now ∷ []) kept kept
+      c.make_room.ensures.stays.same.1 refl c.persist.ensures.steps.same.1 (ends_recorded m t (c.args.command ∷ []) kept one ends g.row.A.Denot) in
       let place = c.in_ok-make_room.ensures.place in
       let all = c.in_ok-make_room.ensures.calls.calls_on_any_disk in
-      let some = c.keep.ensures.calls.some_calls_on_any_disk in (
+      let some = c.persist.ensures.calls.some_calls_on_any_disk in (
         these,
         some.0,
         all.0,
@@ -475,7 +475,7 @@ returns-clause-refuses g c = record {
 }
 
 pub returns-clause-replied : goal.returns-clause-replied
-returns-clause-replied g c = rw (c.keep.ensures.steps.same.1, sym c.make_room.ensures.stays.same.1) c.in-Ok.ensures.ok
+returns-clause-replied g c = rw (c.persist.ensures.steps.same.1, sym c.make_room.ensures.stays.same.1) c.in-Ok.ensures.ok
 
 pub invariant_of-self-2-clause-stored : goal.invariant_of-self-2-clause-stored
 invariant_of-self-2-clause-stored g c = ∥∥₁_map c.make_room.new.self.stored (λ is whole found.
@@ -484,11 +484,11 @@ invariant_of-self-2-clause-stored g c = ∥∥₁_map c.make_room.new.self.store
     let kept = c.if_accepted.result.now in
     let one = Replied c.in-Ok.reply ∷ [] in
     let ends = one_ends m t c.in-Ok.reply c.args.command.now c.in-Ok.ensures.ok c.args.command kept refl c.if_accepted.ensures in
-    let self = c.keep.new.self in
-    let was = is (c.in_ok-make_room.ensures.sound c.if-self.false) (subst (λ (disk : g.row.D.Denot). (g.D.Disk.view disk).honest) c.keep.ensures.steps.same.3 found) in (
-      c.keep.ensures.steps.honest was.0,
-      batch_kept g.row.A.Denot self.layout self.side self.epoch self.journal self.ongoing t self.register (g.D.Disk.view self.disk) c.keep.ensures.steps.same.1
-          (c.in_ok-keep.ensures.on_disk.kept m (ends_history m t (c.args.command ∷ []) kept one ends) (ends_state m t (c.args.command ∷ []) kept one ends) was.0 was.1),
+    let self = c.persist.new.self in
+    let was = is (c.in_ok-make_room.ensures.sound c.if-self.false) (subst (λ (disk : g.row.D.Denot). (g.D.Disk.view disk).honest) c.persist.ensures.steps.same.3 found) in (
+      c.persist.ensures.steps.honest was.0,
+      batch_kept g.row.A.Denot self.layout self.side self.epoch self.journal self.ongoing t self.register (g.D.Disk.view self.disk) c.persist.ensures.steps.same.1
+          (c.in_ok-persist.ensures.on_disk.kept m (ends_history m t (c.args.command ∷ []) kept one ends) (ends_state m t (c.args.command ∷ []) kept one ends) was.0 was.1),
     ))
 
 pub invariant_of-self-in_default-clause-stored : goal.invariant_of-self-in_default-clause-stored
