@@ -9,7 +9,7 @@ use Rattle.checkpoint.specs.declared.layout.Layout.{Layout}
 abbrev pub name : List Byte
 name = 84 ∷ 69 ∷ 84 ∷ 82 ∷ 65 ∷ 76 ∷ 79 ∷ 67 ∷ []
 
--- the number of the layout, as a label states it
+-- the layout number in every label, also where the sides are of layout 2
 abbrev pub layout_number : ℕ
 layout_number = 1
 

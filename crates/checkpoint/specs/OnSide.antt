@@ -126,11 +126,11 @@ module _ {A : Type 0} where
     pub half : IsInHalf layout side form base held image
     pub gate : held.1 < half_end layout side
 
-  -- every image of the disk is on this side, with this image of a register and these records
+  -- every image of the disk is on this side, with this image of a register and these records, in this form
   abbrev pub EachIsOnSide : View → Layout → Side → Form → Base → RecordsAndGate A → Type 0
   EachIsOnSide disk layout side form base held = InEach disk (IsOnSide layout side form base held)
 
-  -- in every image of the disk this side is ready (`IsReady`), with this image of a register and these records
+  -- in every image of the disk this side is ready (`IsReady`), with this image of a register and these records, in this form
   abbrev pub EachIsReady : View → Layout → Side → Form → Base → RecordsAndGate A → Type 0
   EachIsReady disk layout side form base held = InEach disk (IsReady layout side form base held)
 

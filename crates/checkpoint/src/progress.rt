@@ -84,7 +84,7 @@ fn put_rows<A: Allocator + Clone, D: Disk>(
     Ok(())
 }
 
-/// Writes the next rows of a register's image, at most 8, one a sector, to the side that is not current. `progress` says where
+/// Writes the next rows of a register's image, at most 8, one a sector, to the side that is not current. `progress` states where
 /// they begin. Takes no memory, reads nothing, and syncs nothing: a stop may tear these rows until the next sync.
 ///
 /// The register has the layout's limits, and is the one that `progress` was begun with.

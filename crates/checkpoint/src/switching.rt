@@ -10,7 +10,7 @@ use crate::{CheckpointError, Layout, Side};
 use sector_disk::Disk;
 use std::alloc::Allocator;
 
-/// Makes the other side of the disk the current one, once `write_image` has answered `Ok`: opens its root. Takes no
+/// Makes the other side of the disk the current one, once its image is written and synced: opens its root. Takes no
 /// memory.
 ///
 /// A stop at any moment, also after a `DiskFault`, leaves what was there before, or the new image with the records after it.

@@ -28,7 +28,8 @@ with_room false store = record store {
   ongoing = None;
 }
 
--- the next rows of a checkpoint that is under way are written; its register and its journal stay
+-- the next rows of a checkpoint are written, from `was` to `is`, where `epoch` is that of the side that counts; its register and
+-- its journal stay
 pub record HasWrittenRows {A : Type 0} (epoch : Epoch) (was is : Ongoing A) : Type 0 where
   pub register : is.register ≡ was.register
   pub written : is.progress.written ≡ written_after (epoch + 1) was.register was.progress.written

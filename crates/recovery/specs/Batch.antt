@@ -38,7 +38,7 @@ pub record AnswersBatch {A B C D : Type 0} {g : Ghosts D} (old new : Store A D g
   pub idle : taken old.register (asked commands) ≡ [] → new.disk ≡ old.disk
 
 -- When it is refused, and what then stays: all, but after a fault of the disk. Then the store shows the register before the call.
--- `Unready` comes exactly where a record of all commands would not fit.
+-- A store that is not broken answers `Unready` where a record of all commands, at least one, would not fit, and only there.
 pub record RefusesBatch {A B D T : Type 0} {g : Ghosts D} (old new : Store A D g) (commands : List (Bor (Asked B)))
     (result : Result T StoreFault) : Type 0 where
   pub broken : old.broken ≡ true → result ≡ Err Broken

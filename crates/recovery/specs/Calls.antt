@@ -81,21 +81,21 @@ module _ (layout : Layout) (side : Side) where
     abbrev pub rows_calls : {A : Type 0} → Ongoing A → List Call
     rows_calls it = next_calls layout (other_of side) (epoch + 1, it.register) it.progress.written
 
-    -- After a record: the next rows of a checkpoint that is under way, and the switch if they end the image. If one begins, the
-    -- other side is closed, whose root was read as open or closed.
+    -- After a record: the next rows of the checkpoint that is under way, and the switch if they end the image. If none is, and
+    -- one begins (`begins`), the other side is closed, whose root was read as open (`was_open`) or as closed.
     abbrev pub ongoing_calls : {A : Type 0} → Option (Ongoing A) → Bool → Bool → List Call
     ongoing_calls (Some it) begins was_open = rows_calls it ++ end_calls side (ends_with (epoch + 1) it.register it.progress.written)
     ongoing_calls None true was_open = close_calls_by layout (other_of side) was_open
     ongoing_calls None false was_open = []
 
-    -- the calls of a commit that keeps these commands, if a record of them fits; without commands there are none
+    -- the calls of a commit that keeps these commands: a record of them, then `ongoing_calls`; without commands there are none
     abbrev pub commit_calls_by : {A : Type 0} → Place → Option (Ongoing A) → List (Asked A) → Bool → Bool → List Call
     commit_calls_by place ongoing [] begins was_open = []
     commit_calls_by place ongoing (c ∷ cs) begins was_open = record_calls place ongoing (c ∷ cs) ++ ongoing_calls ongoing begins was_open
 
   module _ (epoch : Epoch) (state : State) where
-    -- the register's image is written to the other side, whose root was read as open or closed, with the next epoch, and
-    -- that side is made to count
+    -- the register's image is written to the other side, whose root was read as open (`true`) or as closed, with the next epoch,
+    -- and that side is made to count
     abbrev pub checkpoint_calls_by : Bool → List Call
     checkpoint_calls_by was_open = image_calls_by layout (other_of side) was_open (epoch + 1, state) ++ switch_calls (other_of side)
 

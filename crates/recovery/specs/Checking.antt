@@ -85,7 +85,7 @@ first_damaged a b = option_or (damaged_sector a) (damaged_sector b)
 abbrev pub Taken : Type 0
 Taken = Result Figures Sector
 
--- the epoch of a side whose root is open; or its header, which could not be read
+-- the epoch of a side, if its root is open; or the sector of its header, which could not be read
 abbrev pub epoch_of : SideState → Result (Option Epoch) Sector
 epoch_of state.Unused = Ok None
 epoch_of (state.Whole figures) = Ok (Some figures.epoch)
@@ -102,13 +102,13 @@ taken_from root (state.Damaged epoch at) = Err at
 abbrev pub greater : Epoch → Epoch → Option Side
 greater a b = if a == b then None else if nat_lt a b then Some side.B else Some side.A
 
--- what opening makes of two sides with open roots, of which this one has the greater epoch; if none has, root B is at fault
+-- what opening makes of two sides with open roots, of which this one has the greater epoch; if their epochs are equal, root B is at fault
 abbrev pub taken_of : Option Side → Taken → Taken → Taken
 taken_of None a b = Err (root_at side.B)
 taken_of (Some side.A) a b = a
 taken_of (Some side.B) a b = b
 
--- what opening makes of two sides, by their epochs
+-- what opening makes of two sides, by their epochs and by what it makes of each
 abbrev pub taken_by : Result (Option Epoch) Sector → Result (Option Epoch) Sector → Taken → Taken → Taken
 taken_by (Err at) second a b = Err at
 taken_by (Ok first) (Err at) a b = Err at

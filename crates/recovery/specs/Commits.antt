@@ -31,9 +31,10 @@ abbrev pub CheckpointCalls : {T E : Type 0} → Layout → Side → Epoch → St
 CheckpointCalls layout side epoch state old new result =
     MakesCallsByRoot old new (other_of side) (checkpoint_calls_by layout side epoch state) result
 
--- The calls of a step after which a checkpoint is under way or not (`begins`). At `Ok` the disk has had all of them, and after an error a
--- prefix: a call that fails is the last. A checkpoint begins only where it may, and reads the other side's root. A disk that is not honest
--- may read that root as open or as closed.
+-- The calls of a step in which a checkpoint may begin. `calls_by` lists them by whether one begins, and by whether the root of the other
+-- side, not `side`, was read as open. After an `Ok` a checkpoint is under way or not (`begun`), and the disk has had all of the calls. After
+-- an error it has had a prefix: a call that fails is the last. A checkpoint begins only where `May` holds. A disk that is not honest may read
+-- that root as open or as closed.
 pub record MakesCallsBeside {T E : Type 0} (old new : View) (side : Side) (begun : Bool) (May : Type 0)
     (calls_by : Bool → Bool → List Call) (result : Result T E) : Type 0 where
   pub calls : OnOk result (old.honest → HasCalled old new (calls_by begun (is_root_open (other_of side) old.reads)))

@@ -55,7 +55,7 @@ is_due h place (RadioRow itsi radio groups) = nat_lt h.rules place && nat_le pla
 is_due h place (MailRow w) = nat_lt (h.rules + h.radios) place && nat_le place (h.rules + h.radios + h.mail)
 is_due h place (ServedRow station last) = nat_lt (h.rules + h.radios + h.mail) place
 
--- what is wrong with a row by itself: there is none, or one of another kind
+-- what is wrong with the row at a place by itself: the sector holds no row, or a row of another kind than is due there
 abbrev pub fault_at : Header → ℕ → Option Row → Option Reason
 fault_at h place None = Some reason.Unreadable
 fault_at h place (Some row) = if is_due h place row then None else Some reason.OutOfPlace
@@ -65,7 +65,7 @@ abbrev pub fault_of_first : Option Row → Reason
 fault_of_first None = reason.Unreadable
 fault_of_first (Some row) = reason.OutOfPlace
 
--- the sector, if something is wrong with it
+-- the sector, which is to hold this, as a damaged one, if something is wrong with it
 abbrev pub named : Sector → DamageKind → Option Reason → List Damage
 named at what None = []
 named at what (Some why) = damage at what why ∷ []
@@ -108,14 +108,14 @@ bad_record_in A layout side h image = bad_record (half_of {A = A} (slot_form lay
 -- ---- a side
 
 -- The damaged sectors from the row on at which opening stops: that one, each row after it with which something is wrong by
--- itself, and the first record that can't be read.
+-- itself, and the first record that can't be read (`bad`).
 abbrev pub after_row : Layout → Side → List (List Byte) → Header → Sector → Option Sector → List Damage
 after_row layout side image h first bad =
     let place = first - slot_at layout side in
     damage first (kind_at h place) (fault_of_first (row_in (sector image first)))
     ∷ rows_damage image (slot_at layout side) h (place + 1) (row_count h - (place + 1)) ++ record_damage layout side image bad
 
--- the damaged sectors of a side with this header, on which opening stops at this sector
+-- the damaged sectors of a side with the header h, at whose sector `first` opening stops; `bad`: the first record that can't be read
 abbrev pub after_header : Layout → Side → List (List Byte) → Sector → Header → Option Sector → List Damage
 after_header layout s image first h bad =
     if nat_lt first (half_at layout side.A) then after_row layout s image h first bad
@@ -153,7 +153,7 @@ IsOfState state.Unused damaged = damaged ≡ []
 IsOfState (state.Whole figures) damaged = damaged ≡ []
 IsOfState (state.Damaged epoch first) damaged = Begins first damaged
 
--- a fault of looking for damage
+-- a fault that a search for damage may report
 abbrev pub IsOfDamage : StoreFault → Type 0
 IsOfDamage Unformatted = ⊥
 IsOfDamage BadGeometry = ⊥

@@ -13,7 +13,7 @@ use Rattle.recovery.specs.declared.fault.StoreFault.TheVariants.{BadGeometry, Un
 use Rattle.recovery.specs.declared.label.LabelNumbers.{LabelNumbers}
 use Rattle.recovery.specs.Ranges.{layout_of, limits_of}
 
--- the numbers of a label; the bytes after them are ignored
+-- the numbers of a label, from the bytes after its name; what follows the numbers is ignored
 unfoldable pub numbers_at : List Byte → Option LabelNumbers
 numbers_at bytes = do
   number ← number_at 2 bytes
@@ -35,7 +35,7 @@ layout_of_numbers label =
 abbrev pub is_named : List Byte → Bool
 is_named bytes = bytes_eq (take 8 bytes) name
 
--- a layout for which there are enough sectors
+-- the layout, if there is one, and so many sectors are enough for it
 abbrev pub fitting : Sectors → Option Layout → Result Layout StoreFault
 fitting sectors None = Err BadGeometry
 fitting sectors (Some layout) = if nat_le (disk_size layout) sectors then Ok layout else Err BadGeometry

@@ -74,7 +74,7 @@ SecondAtFault =
     (layout : Layout) (image : List (List Byte)) → IsClosedAt side.A image ⊎ ((epoch : Epoch) × (slot_epoch layout side.A image ≡ Some epoch))
     → IsOpenAt side.B image → slot_epoch layout side.B image ≡ None → side_in layout image ≡ Err (Damaged (slot_at layout side.B))
 
--- no side counts if both are open and state one epoch: sector 2 is at fault
+-- no side counts if both are open and state the same epoch: sector 2 is at fault
 abbrev pub EqualAtFault : Type 0
 EqualAtFault =
     (layout : Layout) (epoch : Epoch) (image : List (List Byte)) → IsOpenAt side.A image → IsOpenAt side.B image

@@ -74,12 +74,12 @@ HasBeenHonest view store = (view store.found).honest × (view store.disk).honest
 
 -- what is the same before and after a call
 module _ {A D : Type 0} {g : Ghosts D} (old new : Store A D g) where
-  -- layout, register, the register from before the call, and the disk as it was found
+  -- the layout, the register, the register from before the call, and the disk as it was found are the same
   abbrev pub HasSameRegister : Type 0
   HasSameRegister =
       (new.layout ≡ old.layout) × (new.register ≡ old.register) × (new.before ≡ old.before) × (new.found.value ≡ old.found.value)
 
-  -- all but the journals, the disk, and whether the store is broken
+  -- all is the same but the journals, the disk, and whether the store is broken
   abbrev pub HasSameButJournals : Type 0
   HasSameButJournals =
       (new.layout ≡ old.layout) × (new.side ≡ old.side) × (new.epoch ≡ old.epoch)

@@ -24,7 +24,7 @@ use Rattle.recovery.specs.declared.fault.StoreFault.TheVariants.{BadGeometry, Br
 use Rattle.recovery.specs.Label.{layout_in}
 use Rattle.recovery.specs.Opens.{Reached, base_in, held_by, played, played_from, run, side_in}
 
--- a fault of an opening, before which there is no store
+-- a fault that an opening may report: all but those of a store that is open already
 abbrev pub IsOfOpening : StoreFault → Type 0
 IsOfOpening Unformatted = Unit {0}
 IsOfOpening BadGeometry = Unit {0}
@@ -35,7 +35,8 @@ IsOfOpening NoMemory = Unit {0}
 IsOfOpening EpochsUsedUp = ⊥
 IsOfOpening Unready = ⊥
 
--- A fault that is reported is the one that is there. `DiskFault` and `NoMemory` state nothing of what is there.
+-- Below, `is` is the result that the disk determines as it reads. A fault that is reported is the one in `is`; but `DiskFault`
+-- and `NoMemory` state nothing of `is`.
 abbrev pub Fails : {Y : Type 0} → StoreFault → Result Y StoreFault → Type 0
 Fails Unformatted is = is ≡ Err Unformatted
 Fails BadGeometry is = is ≡ Err BadGeometry
@@ -46,17 +47,18 @@ Fails NoMemory is = Unit {0}
 Fails EpochsUsedUp is = is ≡ Err EpochsUsedUp
 Fails Unready is = is ≡ Err Unready
 
--- What was read, as view models it, is what is there, unless the device fails or memory runs out.
+-- A value that was read, as `view` models it, is the one in `is`. A fault is as `Fails` states.
 abbrev pub IsValueIn : {X Y : Type 0} → (X → Y) → Result X StoreFault → Result Y StoreFault → Type 0
 IsValueIn view (Ok x) is = is ≡ Ok (view x)
 IsValueIn view (Err fault) is = Fails fault is
 
--- The state that was reached, or why it was not.
+-- If commands were played without a fault, `is` has the state t that was reached. A fault is as `Fails` states.
 abbrev pub PlaysTo : Result Unit StoreFault → State → Result State StoreFault → Type 0
 PlaysTo (Ok u) t is = is ≡ Ok t
 PlaysTo (Err fault) t is = Fails fault is
 
--- The state and the gate that were reached, or why they were not.
+-- If records were played without a fault, `is` has the state t that was reached, and the gate that `gate` reads from the value.
+-- A fault is as `Fails` states.
 abbrev pub EndsAt : {X : Type 0} → (X → Sector) → Result X StoreFault → State → Result Reached StoreFault → Type 0
 EndsAt gate (Ok x) t is = is ≡ Ok (t, gate x)
 EndsAt gate (Err fault) t is = Fails fault is
@@ -75,18 +77,19 @@ abbrev pub rest_in : (A : Type 0) → Place → Sector → View → Half A
 rest_in A place end disk = half_of {A = A} place.form place.count disk.reads place.next end
 
 module _ {A : Type 0} where
-  -- What is there, where a fault was met and these records were then judged: their first fault, else the one that was met.
+  -- `fault` was met, and these records after it were then judged. `is` has their first fault, or else the one that was met.
   abbrev pub Stops : StoreFault → Result (RecordsAndGate A) StoreFault → Result Reached StoreFault → Type 0
   Stops fault (Ok held) is = Fails fault is
   Stops fault (Err first) is = is ≡ Err first
 
-  -- one record more was played, or there was none, or a fault is met before the rest of the half
+  -- The state t is reached. `true`: one record more was played, and `rest` is still to be played. `false`: there is no record, and
+  -- `gate` is closed. Or a fault is met before `rest`.
   abbrev pub PlaysOn : Result Bool StoreFault → State → Sector → Half A → Result Reached StoreFault → Type 0
   PlaysOn (Ok true) t gate rest is = is ≡ played_from t rest
   PlaysOn (Ok false) t gate rest is = is ≡ Ok (t, gate)
   PlaysOn (Err fault) t gate rest is = Stops fault (held_by rest) is
 
-  -- all records were played, or a fault is met before the rest of the half
+  -- all records were played, up to the state t and the closed gate `gate`, or a fault is met before `rest`
   abbrev pub StopsAt : Result Unit StoreFault → State → Sector → Half A → Result Reached StoreFault → Type 0
   StopsAt (Ok u) t gate rest is = is ≡ Ok (t, gate)
   StopsAt (Err fault) t gate rest is = Stops fault (held_by rest) is

@@ -30,12 +30,12 @@ abbrev pub headed : Sector → Option Epoch → Result (Option Epoch) StoreFault
 headed at None = Err (Damaged at)
 headed at (Some epoch) = Ok (Some epoch)
 
--- the epoch of a side whose root is open
+-- the epoch of a side, if its root is open
 unfoldable pub side_at : Layout → Side → List (List Byte) → Result (Option Epoch) StoreFault
 side_at layout side image = if is_open (sector image (root_at side)) then headed (slot_at layout side) (slot_epoch layout side image) else Ok None
 
 -- The side that counts, by the epoch of each one with an open root: the one of the greater epoch, or the only one. Root A is at
--- fault if there is none, root B if both have one epoch.
+-- fault if there is none, root B if both have the same epoch.
 abbrev pub chosen : Option Epoch → Option Epoch → Result Side StoreFault
 chosen None None = Err (Damaged (root_at side.A))
 chosen (Some a) None = Ok side.A
@@ -62,7 +62,7 @@ base_in layout side image = placed (slot_at layout side) (slot_in layout side im
 
 -- ---- the records in a side's half
 
--- a record with a command that is not accepted is at fault
+-- the state after the record in this sector; if there is none, a command of the record is not accepted, and it is at fault
 abbrev pub taken : Sector → Option State → Result State StoreFault
 taken at None = Err (Damaged at)
 taken at (Some s) = Ok s
@@ -73,7 +73,7 @@ module _ {A : Type 0} where
   run s [] = Some s
   run s (c ∷ cs) = if accepts s c then run (next s c) cs else None
 
-  -- the state after records
+  -- the state after the commands of records; the first record with a command that is not accepted is at fault
   unfoldable pub played : State → List (RecordAt A) → Result State StoreFault
   played s [] = Ok s
   played s (entry ∷ entries) = do
@@ -104,8 +104,8 @@ opening layout side epoch gate state = record { layout = layout; side = side; ep
 abbrev pub Reached : Type 0
 Reached = State × ℕ
 
--- The state after the commands of the records of a half, or of a part of one, and the first closed gate. All records are judged
--- before one is played.
+-- The state after s and the commands of the records of a half, or of the rest of one, and the first closed gate. A record that
+-- can't be read is the fault, even if a command before it is not accepted.
 abbrev pub played_from : {A : Type 0} → State → Half A → Result Reached StoreFault
 played_from s half = do
   held ← held_by half

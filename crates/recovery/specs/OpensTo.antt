@@ -24,7 +24,7 @@ pub record OpensTo (A : Type 0) (state : State) (image : List (List Byte)) : Typ
   pub opens : opens A image ≡ Ok opening
   pub same : opening.state ≡ state
 
--- the image of an empty register, of epoch 1
+-- the image of an empty register with the layout's limits, of epoch 1
 abbrev pub first_base : Layout → Base
 first_base layout = (1, empty layout.limits)
 
@@ -34,7 +34,8 @@ pub record IsRanged (limits : Limits) (s : State) : Type 0 where
   pub ranges : StateInRange s
   pub under : s.registered.limits ≡ limits
 
--- An image that opens is on this side, with a base and records of either form. Their commands were accepted one after the other.
+-- The image is on the opening's side, with a base of the opening's epoch, and records of one form up to its gate. The base
+-- accepts their commands one after the other, and the opening has the state after them.
 pub record OpensAs (A : Type 0) (opening : Opening) (image : List (List Byte)) : Type 0 where
   pub form : Form
   pub base : State

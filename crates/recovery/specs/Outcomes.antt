@@ -17,14 +17,14 @@ abbrev pub asked : {B : Type 0} → List (Bor (Asked B)) → List (Asked B)
 asked commands = map (λ command. command.now) commands
 
 module _ {B : Type 0} where
-  -- so many of the commands, from the first on, were applied: the state then, the outcomes, and the accepted commands
+  -- so many of the commands, from the first on, were applied to the state s: to the state t, with these outcomes and accepted ones
   pub record AreApplied {C : Type 0} (s : State) (commands : List (Asked B)) (applied : ℕ) (t : State) (outcomes : List (Outcome C))
       (accepted : List (Asked B)) : Type 0 where
     pub state : t ≡ after s (take applied commands)
     pub replied : outcomes ≡ map Replied (replies C s (take applied commands))
     pub taken : accepted ≡ taken s (take applied commands)
 
-  -- no more are applied: there are none left, or the next one needs memory
+  -- no more than so many are applied, up to the state t: there are none left, or the next one needs memory in t
   pub record IsEnd (commands : List (Asked B)) (applied : ℕ) (t : State) : Type 0 where
     pub most : applied ≤ length commands
     pub wants : (c : Asked B) → slice_get commands applied ≡ Some c → IsTrue (needs_memory t c)
@@ -33,7 +33,7 @@ module _ {B : Type 0} where
   abbrev pub IsAfterBatch : State → List (Asked B) → State → Type 0
   IsAfterBatch s commands t = (applied : ℕ) × (t ≡ after s (take applied commands)) × IsEnd commands applied t
 
-  -- commands that a journal under the allocator A keeps: the accepted ones of the first commands, which made the state t
+  -- commands that a journal under the allocator A keeps: the accepted ones of the first commands, which led from s to t
   pub record AreRecorded (A : Type 0) (s : State) (commands : List (Asked B)) (t : State) (recorded : List (Asked A)) : Type 0 where
     pub applied : ℕ
     pub state : t ≡ after s (take applied commands)

@@ -67,12 +67,12 @@ kept_by kept what (Some more) = record { loading = more; rows = with_row kept.ro
 abbrev pub kept_with : Header → ℕ → List Byte → KeptRows → KeptRows
 kept_with h place bytes kept = kept_by kept (kind_at h place) (unless_wrong (fault_at h place (row_in bytes)) (taken_from kept.loading bytes))
 
--- the rows that are kept of so many after the header in a slot
+-- the rows in `kept`, and those that are kept of so many after the header h in a slot
 unfoldable pub rows_kept : List (List Byte) → Sector → Header → KeptRows → Sectors → KeptRows
 rows_kept image slot h kept zero = kept
 rows_kept image slot h kept (suc n) = kept_with h (n + 1) (sector image (slot + (n + 1))) (rows_kept image slot h kept n)
 
--- no row has come after this header
+-- no row is kept yet: the header h is loaded, and the rows that are kept are counted in `stated`, without its own
 abbrev pub none_kept : Limits → Header → Header → KeptRows
 none_kept limits h stated = record { loading = unwrap_or (row_taken (begun limits) (HeaderRow h)) (begun limits); rows = without_rows stated }
 
@@ -80,7 +80,7 @@ none_kept limits h stated = record { loading = unwrap_or (row_taken (begun limit
 abbrev pub rows_stated : Header → Sectors
 rows_stated h = h.rules + h.radios + h.mail + h.served
 
--- the header that states fewer rows: of the first kind of which fewer were kept, as many as were
+-- the header h with fewer rows: of the first kind of which it states more than were kept, it then states as many as were
 abbrev pub lowered : Header → Header → Header
 lowered h kept =
     if nat_lt kept.rules h.rules then record h { rules = kept.rules }

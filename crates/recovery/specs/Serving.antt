@@ -55,7 +55,7 @@ stored_of failures epoch broken before register = record {
 abbrev pub stored_in : {A D : Type 0} {g : Ghosts D} → (D → View) → Store A D g → Stored
 stored_in view store = stored_of (view store.disk).failures store.epoch store.broken store.before.value store.register
 
--- nothing was done, or the command was accepted
+-- t is the state s, or s accepts the command c, and t is the state after it
 abbrev pub IsAfterOne : {B : Type 0} → State → Asked B → State → Type 0
 IsAfterOne s c t = (t ≡ s) ⊎ (IsTrue (accepts s c) × (t ≡ next s c))
 

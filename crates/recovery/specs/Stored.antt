@@ -18,10 +18,9 @@ use Rattle.recovery.specs.OpensTo.{commands_of}
 abbrev pub fresh_place : Layout → Side → ℕ → Place
 fresh_place layout side count = record { first = half_at layout side; end = half_end layout side; next = half_at layout side; form = Numbered; count = count }
 
--- There are one image of a register, of this epoch, and one list of records, so that each image that a stop may leave is on
--- this side with both. The records are of the journal's form and end at its next gate. Their commands were accepted one after
--- the other, and the state is what they made of that image of a register. The journal counts the commands that the state
--- counts.
+-- There are one base, of this epoch, and one list of records, so that each image that a stop may leave is on this side with
+-- both. The records are of the journal's form and end at its next gate. The base accepts their commands one after the other,
+-- and `state` is the state after them. The journal counts as many commands as the state.
 pub record IsStored (A : Type 0) (layout : Layout) (side : Side) (epoch : Epoch) (journal : Place) (state : State) (disk : View) : Type 0 where
   pub base : State
   pub entries : List (RecordAt A)

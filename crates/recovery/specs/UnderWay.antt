@@ -59,11 +59,12 @@ module _ (A : Type 0) (layout : Layout) (side : Side) (epoch : Epoch) (ongoing :
       (journal : Place) (state : State) → old.honest → IsKept A layout side epoch journal (Some ongoing) state old
       → IsStored A layout (other_of side) (epoch + 1) ongoing.journal state new
 
--- So few sectors of the other half, which has so many in all, are used that it does not fill before the current one.
+-- Each half has so many sectors. So few of the other one are used, against those of the current one, that it does not fill
+-- before the current one.
 abbrev pub IsAhead : ℕ → Place → Place → Type 0
 IsAhead sectors current other = 4 * (other.next - other.first) + 3 * sectors ≤ 6 * (current.next - current.first)
 
--- what a checkpoint that is under way must be, for this journal and a register that has accepted so many commands
+-- what a checkpoint under way must be, where the side that counts has the journal `current`, and the register so many commands
 pub record BelongsTo {A : Type 0} (layout : Layout) (side : Side) (epoch : Epoch) (current : Place) (count : ℕ) (ongoing : Ongoing A) : Type 0 where
   pub first : ongoing.journal.first ≡ half_at layout (other_of side)
   pub end : ongoing.journal.end ≡ half_end layout (other_of side)
@@ -81,6 +82,6 @@ pub record MayBegin (layout : Layout) (epoch : Epoch) (journal : Place) : Type 0
   pub used : layout.journal ≤ 2 * (journal.next - journal.first)
   pub more : epoch < last_epoch
 
--- do the next rows end the image?
+-- do the next rows, after so many that are written, end the image?
 abbrev pub ends_with : Epoch → State → ℕ → Bool
 ends_with epoch state written = nat_eq (written_after epoch state written) (length (rows_of epoch state))

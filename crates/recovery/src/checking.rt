@@ -51,7 +51,7 @@ impl SideState {
         }
     }
 
-    // The epoch of a side whose root is open, or its header, which could not be read.
+    // The epoch of the side, if its root is open; or the sector of its header, which could not be read.
     fn epoch(&self) -> Result<Option<u64>, u64>
         ensures { result ≡ epoch_of self.now }
     {
@@ -66,7 +66,7 @@ impl SideState {
         }
     }
 
-    // What opening makes of this side, whose root is at `root`.
+    // What opening makes of this side, whose root is in the sector `root`: its figures, or the sector at fault.
     fn figures_or_fault(&self, root: u64) -> Result<Figures, u64>
         ensures { result ≡ taken_from root self.now }
     {

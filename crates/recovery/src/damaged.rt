@@ -60,7 +60,7 @@ pub struct Damage {
     pub reason: Reason,
 }
 
-// Adds a sector with which something is wrong.
+// Adds the sector, if something is wrong with it.
 #[tactic(auto, using(crate::proofs::FirstDamage::keeps_first))]
 fn add_named<A: Allocator>(
     found: &mut Vec<Damage, A>,
@@ -132,7 +132,7 @@ fn add_rows<A: Allocator, D: Disk>(
     Ok(())
 }
 
-// A damaged sector alone.
+// A list of one damaged sector.
 fn one_damage<A: Allocator>(
     alloc: A,
     sector: u64,
@@ -148,7 +148,7 @@ fn one_damage<A: Allocator>(
     Ok(found)
 }
 
-// Adds the record that can't be read.
+// Adds the record in the sector `bad`, which can't be read, if there is one.
 fn add_record<A: Allocator, D: Disk>(
     disk: &mut D,
     layout: &Layout,
@@ -201,7 +201,7 @@ fn after_row<A: Allocator, D: Disk>(
     Ok(found)
 }
 
-// The damaged sectors of a side with a good header.
+// The damaged sectors of a side whose header the limits allow, on which opening stops at `stop`.
 fn after_header<A: Allocator, D: Disk>(
     alloc: A,
     disk: &mut D,

@@ -15,7 +15,7 @@ pub enum StoreFault {
     /// The disk has no label.
     #[error("the disk is unformatted")]
     Unformatted,
-    /// The label states another layout or limits out of range, or the disk has too few sectors.
+    /// The label states another layout or a number out of its range, or the disk has too few sectors.
     #[error("the disk has a bad geometry")]
     BadGeometry,
     /// The sector of this number is damaged.

@@ -24,7 +24,7 @@ use image_rows::{Header, SectorText, header_row};
 use sector_disk::{Disk, DiskError};
 use std::alloc::Allocator;
 
-/// The number of the layout that this crate writes and reads.
+/// The layout number in every label, also where the sides are of layout 2.
 pub(crate) const LAYOUT: u64 = 1;
 
 // The first row of an empty register's image, of epoch 1.

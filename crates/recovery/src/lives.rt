@@ -20,10 +20,10 @@ pub fn begins<A: Allocator, D: Disk>()
     ensures durable { BeginsWhereDurable A D.view }
 {}
 
-/// Over the whole life of a disk, through any calls and any stops between them and within them: each image that a stop may
-/// leave opens to what accepted commands made of the base: all of each call that was answered, and all or none of each other
-/// call. The register of a store that is not broken is made by such commands too, and is on the disk. A message that waited in
-/// the base, or that one of these commands made, is missing exactly where a later one of them ended it.
+/// Over the whole life of a disk, through any calls and any stops between them and within them, each image that a stop may
+/// leave opens to what accepted commands made of the base. These are all commands of each call that was answered, and all or
+/// none of each other call. The register of a store that is not broken is made by such commands too, and is on the disk. A
+/// message that waited in the base, or that one of these commands made, is missing exactly where a later one of them ended it.
 ///
 /// This function does nothing: calling it gives its clauses.
 pub fn lasts<A: Allocator, D: Disk>()

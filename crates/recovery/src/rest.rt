@@ -51,7 +51,7 @@ pub struct Rest<A: Allocator> {
     pub side: Side,
     /// The epoch of its image.
     pub epoch: u64,
-    /// The rows of its image that are damaged, or may not follow those before them.
+    /// How many rows of its image are left out: they are damaged, or may not follow those before them.
     pub left_out: LeftOut,
     /// The register of the other rows, after the commands of the records up to the first one at fault.
     pub register: Register<A>,
@@ -75,7 +75,8 @@ fn left_out(stated: &Header, kept: &Header) -> LeftOut
     }
 }
 
-// What is left of a side: this register, of rows under the header that is there and one that states as many as are kept.
+// What is left of a side: this register, by the header that is there and by one that states as many rows as are kept. `end` has the
+// sector of the record at fault, if there is one, and how many records after it can be read.
 fn rest_by<A: Allocator>(
     side: Side,
     stated: &Header,
@@ -241,7 +242,7 @@ fn read_side_rest<A: Allocator + Copy, D: Disk>(
     }
 }
 
-// How many commands the register that is left of a side has accepted, and the side's epoch.
+// How many commands the register that is left of a side has accepted, and the side's epoch; `None` if nothing is left.
 fn read_size<A: Allocator + Copy, D: Disk>(
     alloc: A,
     disk: &mut D,
@@ -264,7 +265,8 @@ fn read_size<A: Allocator + Copy, D: Disk>(
     }
 }
 
-// The side of which more commands are left, or the one of the greater epoch if these are equal.
+// The side of which more commands are left, or the one of the greater epoch if these are equal. A side of which nothing is left
+// has `None`; A if both have.
 fn greater_side(a: Option<(u64, u64)>, b: Option<(u64, u64)>) -> Side
     ensures { result ≡ greater_side a b }
 {

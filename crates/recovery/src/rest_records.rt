@@ -136,7 +136,7 @@ fn pass_over<A: Allocator, D: Disk>(
     Ok(true)
 }
 
-// Passes over the record at the next gate, if there is one that can be read.
+// Passes over the record at the next gate, if there is one that can be read. Returns whether there is.
 #[tactic(auto, using(crate::proofs::Later::none_closed, crate::proofs::Later::none_bad))]
 fn has_next<A: Allocator + Copy, D: Disk>(
     alloc: A,

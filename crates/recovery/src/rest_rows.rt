@@ -138,7 +138,7 @@ fn keep_rows<A: Allocator + Clone, D: Disk>(
     Ok(kept)
 }
 
-// The header with the first of its numbers that is not reached lowered to the number of rows that were kept.
+// The header with fewer rows: of the first kind of which it states more than were kept, it then states as many as were.
 fn lowered(header: &Header, kept: &Header) -> Header
     ensures { result ≡ lowered header.now kept.now }
 {
@@ -193,7 +193,7 @@ fn load<A: Allocator + Copy, D: Disk>(
     }
 }
 
-// The register of the rows of a slot that can still be read, and the header of its image.
+// The register of the rows of a slot that can still be read, and the header under which they make it.
 #[tactic(auto, unfolding(crate::specs::Rests::made_by))]
 pub(crate) fn read_rest_base<A: Allocator + Copy, D: Disk>(
     alloc: A,

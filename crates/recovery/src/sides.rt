@@ -96,7 +96,7 @@ pub(crate) fn greater(a: u64, b: u64) -> Option<Side>
 }
 
 // The side that counts, of those with an open root, by their headers: the one of the greater epoch. Sector 1 is at fault if
-// there is none, sector 2 if both have one epoch.
+// there is none, sector 2 if both have the same epoch.
 fn choose_side(a: Option<Head>, b: Option<Head>) -> Result<Current, StoreFault>
     ensures value { IsValueIn (λ current. current.side) result (chosen (option_map (λ head. head.epoch) a) (option_map (λ head. head.epoch) b)) }
     ensures form { (form : Side → Form) → HasForm (form Side.A) a → HasForm (form Side.B) b → IfOk result (λ current. current.form ≡ form current.side) }

@@ -20,7 +20,7 @@ use Rattle.recovery.specs.Opens.{Reached, opens_by, played_by}
 abbrev pub HasForm : Form → Option Head → Type 0
 HasForm form found = IfSome found (λ head. head.form ≡ form)
 
--- where the records of the side have this form, as the disk reads
+-- P holds if the records of the side have the form of `current`, as the disk reads
 abbrev pub InForm : Layout → Current → View → Type 0 → Type 0
 InForm layout current disk P = ReadsForm layout current.side current.form disk → P
 

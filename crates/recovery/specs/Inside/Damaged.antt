@@ -43,7 +43,7 @@ row_damage_from layout side image stop = after_row layout side image stop.header
 abbrev pub damage_at : Layout → Side → List (List Byte) → Stop → List Damage
 damage_at layout side image stop = after_header layout side image stop.first stop.header stop.bad
 
--- This damage, as the disk reads, is added to what was found before.
+-- `more`, which is damage as the disk reads, is added to what was found before.
 pub record AddsDamage {T : Type 0} (disk : View) (old new more : List Damage) (result : Result T StoreFault) : Type 0 where
   pub added : OnOk result (disk.honest → new ≡ old ++ more)
   pub first : OnOk result (KeepsFirst old new)

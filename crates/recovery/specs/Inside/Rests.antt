@@ -32,7 +32,7 @@ pub record HasAtMost (n : ℕ) (h : Header) : Type 0 where
   pub mail : h.mail ≤ n
   pub served : h.served ≤ n
 
--- what the row that is due at this place makes with those before it
+-- what the loading before this place becomes with these bytes, if they are the row that is due there
 abbrev pub taken_at : Header → ℕ → List Byte → Loading → Option Loading
 taken_at h place bytes loading = unless_wrong (fault_at h place (row_in bytes)) (taken_from loading bytes)
 
@@ -92,7 +92,7 @@ CanReadAfter A place disk bad later = AreReadableAt A place.form disk.reads plac
 abbrev pub HasLater : (A : Type 0) → Place → View → Sector → ℕ → Type 0
 HasLater A place disk bad later = AreLater A place.form disk.reads place.end place.count place.next bad later
 
--- if the records end at one in a sector, those after it are the ones that can be read after it from the new place
+-- if the records from the old place on end at one in a sector, as many can be read after it as `CanReadAfter` states of the new one
 abbrev pub EndsAt : (A : Type 0) → Place → Place → View → Option Sector → Type 0
 EndsAt A old new disk bad = IfSome bad (λ at. (later : ℕ) → CanReadAfter A new disk at later → HasLater A old disk at later)
 
