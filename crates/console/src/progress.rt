@@ -55,7 +55,7 @@ impl<A: Allocator> CurrentLine<A> {
         self.bytes.extend_from_slice(run).unwrap();
     }
 
-    /// Adds the last bytes of the line, if some of its bytes came before. Else the last bytes are not copied: `ended` takes them.
+    /// Adds the last bytes of the line, if some of its bytes came before. Else the last bytes are not copied: `end_line` takes them.
     #[inline(always)]
     pub(crate) fn join(&mut self, run: &[u8])
         ensures { (line : List ℕ) → Holds self.old.bytes.items self.old.long line → HoldsWith self.new.bytes.items self.new.long line run.now }
