@@ -64,7 +64,8 @@ module _ (A : Type 0) (layout : Layout) (side : Side) (epoch : Epoch) (ongoing :
 abbrev pub IsAhead : ℕ → Place → Place → Type 0
 IsAhead sectors current other = 4 * (other.next - other.first) + 3 * sectors ≤ 6 * (current.next - current.first)
 
--- what a checkpoint under way must be, where the side that counts has the journal `current`, and the register so many commands
+-- what a checkpoint under way must be, where `current` is the journal of the side that counts, and the register has accepted
+-- `count` commands
 pub record BelongsTo {A : Type 0} (layout : Layout) (side : Side) (epoch : Epoch) (current : Place) (count : ℕ) (ongoing : Ongoing A) : Type 0 where
   pub first : ongoing.journal.first ≡ half_at layout (other_of side)
   pub end : ongoing.journal.end ≡ half_end layout (other_of side)
