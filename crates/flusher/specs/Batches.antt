@@ -138,7 +138,8 @@ module _ {D : Type 0} (commands : List (Asked Global)) (old new : StoreView Glob
   HasTried (Err BadGeometry) = ⊥
   HasTried (Err (Damaged at)) = ⊥
 
-  -- the result of a commit of a sound store that first makes a checkpoint if a record of all the commands would not fit
+  -- The result of a commit of a sound store that first makes a checkpoint if a record of all the commands would not fit. `was` and `now` count
+  -- the commits tried before and after it.
   abbrev pub IsAnswerOf : Result (Vec (Outcome Global) Global) StoreFault → Attempts → Attempts → Type 0
   IsAnswerOf (Ok outcomes) was now = IsDone outcomes.items × HasRecorded
   IsAnswerOf (Err fault) was now = IsRefusedBy fault was now

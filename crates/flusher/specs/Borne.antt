@@ -13,14 +13,14 @@ use Rattle.flusher.specs.declared.decision.Decision.{Decision}
 use Rattle.flusher.specs.declared.decision.Decision.TheVariants as decision
 use Rattle.flusher.specs.Stages.{Sent, IsKeptOf}
 
--- These commands bear out a reply. Accepted: the command is among them at its number, with this reply. Kept: they or the base
+-- These commands bear out a reply to the command c. Accepted: the command is among them at its number, with this reply. Kept: they or the base
 -- keep this number and reply for the command's station and sequence. Refused: the step refuses the command after them.
 abbrev pub IsReplyAfter : State → List (Asked Global) → Asked Global → Reply Global → Type 0
 IsReplyAfter base commands c (Accepted n p) = Lands base commands c n p
 IsReplyAfter base commands c (Kept n p) = IsKeptOf base commands c n p
 IsReplyAfter base commands c (Refused r) = reply_to (after base commands) c ≡ Refused r
 
--- These commands bear out a decision: its reply, if it is one. Out of memory and a fault need nothing.
+-- These commands bear out a decision on the command c: its reply, if it is one. Out of memory and a fault need nothing.
 abbrev pub IsDecisionAfter : State → List (Asked Global) → Asked Global → Decision → Type 0
 IsDecisionAfter base commands c (decision.Replied r) = IsReplyAfter base commands c r
 IsDecisionAfter base commands c decision.NoMemory = Unit {0}

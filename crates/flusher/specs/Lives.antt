@@ -38,7 +38,8 @@ pub data AreCutShort : List (Event Global) → List (Event Global) → Type 0 wh
   in_last : (event : Event Global) (events : List (Event Global)) → AreCutShort (event ∷ events) (stopped event ∷ events)
   in_earlier : (event : Event Global) (events cut : List (Event Global)) → AreCutShort events cut → AreCutShort (event ∷ events) cut
 
--- A life of the disk came to the first flusher's store by the events `before`. It goes on by rounds to the last flusher's store, or by a stop.
+-- A life of the disk began with the register `from` and came to the first flusher's store by the events `before`. It goes on by rounds to the
+-- last flusher's store, or by a stop.
 -- `mid` is the flusher after some of the rounds, or after none. After a stop at any moment since `mid` the disk comes back with all that the
 -- rounds up to `mid` did, so with all that was answered by then. Of the later rounds it has all that those before the stop did, and all or
 -- none of the round in which the stop came.
@@ -51,8 +52,8 @@ pub record HasLived {D : Type 0} (view : D → View) (base from : State) (before
       → (cut : List (Event Global)) × AreCutShort later cut × IsLife Global view from (cut ++ (done ++ before)) (Closed disk)
 
 module _ {D : Type 0} (view : D → View) (base : State) where
-  -- A life of the disk came to this flusher's store by these events. The register of a sound store is what the durable commands make, and
-  -- these were taken in this order.
+  -- A life of the disk began with the register `from` and came to this flusher's store by these events. The register of a sound store is what
+  -- the durable commands make, and these were taken in this order.
   pub record IsInLife (from : State) (before : List (Event Global)) (f : FlusherView D) : Type 0 where
     pub life : IsLife Global view from before (Open f.store)
     pub made : f.store.broken ≡ false → f.store.register ≡ after base f.durable

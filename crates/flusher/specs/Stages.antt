@@ -1,4 +1,5 @@
--- What a round does, over what is durable and what is published.
+-- What a round does, over what is durable and what is published. Here and in the other specs of this crate `base` is the register over which
+-- the centre was opened.
 use Rattle.std.specs.Prelude.{◌≡◌, ◌⊎◌, ◌≤◌, ◌+◌, ℕ, Bool, true, false, Option, List, [], ◌∷◌, ◌++◌, length, take, None, Some}
 use Rattle.std.specs.List.{AllByRecursion}
 use Rattle.std.specs.declared.alloc.Global.{Global}
@@ -35,11 +36,11 @@ pub record Sent : Type 0 where
 abbrev pub sent : Tick → Asked Global → List (Asked Global) → Decision → Sent
 sent t c published d = record { moment = t; command = c; published = published; decision = d }
 
--- the list or the base keeps this number and reply of the command's station and sequence
+-- the list `l` or the base keeps this number n and reply p for the station and the sequence of the command c
 abbrev pub IsKeptOf : State → List (Asked Global) → Asked Global → ℕ → Option (List Bool) → Type 0
 IsKeptOf base l c n p = IsLeftBy base l c.station (last_of c n p) ⊎ (last_at base c.station ≡ Some (last_of c n p))
 
--- The published list bears out a reply. Accepted: the command is in it at its number, with this reply. Kept: if the list
+-- The published list bears out a reply to the command c. Accepted: the command is in it at its number, with this reply. Kept: if the list
 -- reaches this number, the list or the base keeps number and reply for the command's station and sequence. Refused: the step
 -- refuses the command after some list of commands that are accepted in turn.
 abbrev pub BearsOut : State → List (Asked Global) → Asked Global → Reply Global → Type 0
@@ -47,7 +48,7 @@ BearsOut base published c (Accepted n p) = Lands base published c n p
 BearsOut base published c (Kept n p) = n ≤ base.count + length published → IsKeptOf base published c n p
 BearsOut base published c (Refused r) = (l : List (Asked Global)) × IsHistory base l × (reply_to (after base l) c ≡ Refused r)
 
--- The published list bears out a decision: its reply, if it is one. Out of memory and a fault need nothing.
+-- The published list bears out a decision on the command c: its reply, if it is one. Out of memory and a fault need nothing.
 abbrev pub BearsOutDecision : State → List (Asked Global) → Asked Global → Decision → Type 0
 BearsOutDecision base published c (decision.Replied r) = BearsOut base published c r
 BearsOutDecision base published c decision.NoMemory = Unit {0}
@@ -125,11 +126,11 @@ world_of s answers = record {
 }
 
 module _ (base : State) (f g : Stage) (commands : List (Asked Global)) (events : List (Event Global)) (answers : List Sent) where
-  -- these events take the commands and give the answers, whatever waits and whatever was answered before
+  -- these events lead from stage f to stage g, take the commands and give the answers, whatever waits and whatever was answered before (`a`)
   abbrev pub GoesOn : Type 0
   GoesOn = (a : List (Entry Global)) → Goes base commands events (world_of f a) (world_of g (a ++ entries_of answers))
 
-  -- these events take the commands, give no reply, and end in a crash
+  -- these events lead from stage f to stage g, take the commands, give no reply, and end in a crash
   pub record Stops : Type 0 where
     pub up : f.broken ≡ false
     pub down : g.broken ≡ true

@@ -42,7 +42,8 @@ pub record SessionView : Type 0 where
   pub seen : List (Asked Global)
   pub reached : ℕ
 
--- the decision accepts a command under a number that was reached already
+-- The decision accepts a command under a number that was reached already. Here and in `reached_by`, `base` is the number of commands that the
+-- register had accepted when the centre was opened, and `reached` counts further ones.
 abbrev pub IsAlreadyReached : ℕ → ℕ → Decision → Type 0
 IsAlreadyReached base reached (decision.Replied (Accepted n p)) = n ≤ base + reached
 IsAlreadyReached base reached (decision.Replied (Kept n p)) = ⊥
@@ -50,7 +51,7 @@ IsAlreadyReached base reached (decision.Replied (Refused r)) = ⊥
 IsAlreadyReached base reached decision.NoMemory = ⊥
 IsAlreadyReached base reached (decision.Fault f) = ⊥
 
--- how many commands are reached, once this was decided
+-- how many commands are reached once this was decided, if `reached` were before
 abbrev pub reached_by : ℕ → ℕ → Decision → ℕ
 reached_by base reached (decision.Replied (Accepted n p)) = n - base
 reached_by base reached (decision.Replied (Kept n p)) = reached
@@ -58,7 +59,7 @@ reached_by base reached (decision.Replied (Refused r)) = reached
 reached_by base reached decision.NoMemory = reached
 reached_by base reached (decision.Fault f) = reached
 
--- what was received is for another command, its list is shorter than what was seen, or it accepts under a number reached already
+-- what was received, `x`, is not for the command c, its list is shorter than what was seen, or it accepts under a number reached already
 abbrev pub IsMisfit : State → Asked Global → List (Asked Global) → ℕ → Sent → Type 0
 IsMisfit base c seen reached x =
     (x.command ≡ c → ⊥) ⊎ (length x.published < length seen) ⊎ IsAlreadyReached base.count reached x.decision
@@ -102,7 +103,7 @@ module _ {J : Type 0} where
   abbrev pub HasReached : State → ℕ → ℕ → List (Asked Global) → Answer J → Type 0
   HasReached base old new now a = (old ≤ new) × (new ≤ length now) × IsWithin base new a
 
-  -- what was received is for this command and is the answer, and its list is seen now; or it does not fit, and the answer is `Closed`
+  -- what was received, `x`, is for the command c and is the answer, and its list is seen now; or it does not fit, and the answer is `Closed`
   abbrev pub Fits : State → Asked Global → List (Asked Global) → ℕ → Sent → List (Asked Global) → Answer J → Type 0
   Fits base c seen reached x now a =
       ((x.command ≡ c) × (a ≡ answer_by x.published x.decision) × (now ≡ x.published)) ⊎ (IsMisfit base c seen reached x × (a ≡ answer.Closed) × (now ≡ seen))

@@ -18,7 +18,8 @@ abbrev pub HasTakenOne : Option Entry → Taking → Taking → Type 0
 HasTakenOne result old new =
     MatchOption result ((new.taken ≡ old.taken) × (new.empty ≡ true)) (λ x. (new.taken ≡ old.taken ++ x ∷ []) × (new.empty ≡ false))
 
--- entries were taken, these are the commands among them, and the ends among them were noted
+-- Entries were taken, these are the commands among them, and the ends among them were noted. `flags` says of each
+-- station whether its end was taken before, and `noted` whether it is now.
 pub record HasTakenBatch (old new : Taking) (flags noted : List Bool) (commands : List (Asked Global)) : Type 0 where
   pub popped : List Entry
   pub taken : HasTaken old popped new

@@ -10,7 +10,7 @@ module _ {J : Type 0} where
   abbrev pub IsCaughtUp : Publication J → Type 0
   IsCaughtUp p = IsAllPublished p.publisher p.unpublished.items
 
-  -- all that is durable is published; or nothing new is, and there was something new
+  -- If `all`, all that is durable is published. Else nothing new is published, though something was to be.
   abbrev pub HasShown : Bool → Publication J → Publication J → Type 0
   HasShown all old new = MatchBool all (new.publisher.published ≡ durable_of new)
       ((new.publisher.published ≡ old.publisher.published) × (0 < length (commands_in old.unpublished.items)))

@@ -46,7 +46,8 @@ module _ {J : Type 0} where
     pub short : AreShort outcomes
     pub kept : commands_in p.unpublished.items ≡ accepted_by commands outcomes
 
-  -- these commands, which were committed, were published, or that ran out of memory, and each was answered (`HavePublished`)
+  -- From p to q these commands, which were committed, were published, or publishing them ran out of memory. Each was answered
+  -- (`HavePublished`).
   abbrev pub HavePublishedFrom : Publication J → Publication J → List (Asked Global) → Committed → List (AnswerSender Sent)
       → List (AnswerSender Sent) → Type 0
   HavePublishedFrom p q commands committed old new =
@@ -61,6 +62,7 @@ module _ {J D : Type 0} {g : Ghosts D} where
     pub made : c.store.register ≡ after base (durable_of p)
     pub sound : c.store.broken ≡ false
 
+  -- p and c are the publication and the committer before the commit, and q and d are those after it. `room` holds the batch.
   module _ (p : Publication J) (c : Committer D g) (q : Publication J) (d : Committer D g) (room : BatchBuffers) where
     -- What is published is a prefix of what is durable. A sound store's register is what the durable commands make. If the disk failed in
     -- the commit, nothing became durable.
