@@ -11,7 +11,8 @@ use Rattle.stations.specs.declared.orders.Orders.{Orders}
 use Rattle.stations.specs.declared.port.Port.{Port}
 use Rattle.stations.specs.declared.station_run.StationRun.{StationRun}
 
--- Given is a store that is open in a life of the disk, and not broken. A run of many stations over this store goes on with this life: each
+-- Given is a store that is open in a life of the disk, and not broken. The life began with the register `from` and came there by the events
+-- `before`. A run of many stations over this store goes on with this life: each
 -- round of its flusher is a call in the life, and a stop may come at any moment (`HasLived`).
 abbrev pub RunsGoOnWithLives : {D I O : Type 0} → (D → View) → (J : Type 0) → State → (I → Option (List Byte)) → (O → Option (List Byte)) → Type 0
 RunsGoOnWithLives {D} {I} {O} disk J base unread written =

@@ -67,7 +67,7 @@ abbrev pub accepts : Result (Reply Global) Outage → Bool
 accepts (Ok replied) = is_acceptance replied
 accepts (Err word) = false
 
--- the command was submitted, and its answer gives this result
+-- The command was submitted, and its answer gives this result. Here and below, s is the session before the call, and t after it.
 pub record IsSubmitted (J : Type 0) (base : State) (s : AtSession) (c : Asked Global) (result : Result (Reply Global) Outage) (t : AtSession) : Type 0 where
   pub answer : Answer J
   pub result_is : result ≡ result_of answer

@@ -49,7 +49,7 @@ module _ {J I O L F G : Type 0} where
     -- why it ended, by the calls of the reader and the writer
     pub ends : EndsSince turns (calls_of input) (calls_of input_now) (events_of output) (events_of output_now) result.1
 
-  -- How often the reader of a run was called, and when each fault comes.
+  -- The reader of a run was called at most `turns` times. The other clauses say what each fault of the run means for the calls.
   pub record IsCounted (turns : ℕ) (session : Session J) (input input_now : Input I L F) (output output_now : Output O G)
       (result : Session J × Result Ran RunFault) : Type 0 where
     pub calls : input_now.steps.now ≤ input.steps.now + turns

@@ -101,7 +101,8 @@ abbrev pub IsOnDisk : {D : Type 0} → (D → View) → StoreView Global D → T
 IsOnDisk disk opened = HasBeenHonest disk opened ⊎ ((disk opened.disk).honest × IsStoredIn Global disk opened)
 
 -- Stations 1, 2 and so on were served over an opened store, each with its port. `orders` says which of them may give orders, and `turns` how often
--- a reader may be called. What came of it is a store, and a run for each station.
+-- a reader may be called. `unread` and `written` are what is known of a reader's bytes and of a writer's contents. What came of it is a store, and
+-- a run for each station.
 pub record HasServedStations {D I O : Type 0} (disk : D → View) (J : Type 0) (base : State) (orders : Orders) (turns : ℕ)
     (unread : I → Option (List Byte)) (written : O → Option (List Byte)) (opened : StoreView Global D) (ports : List (Port I O))
     (store : StoreView Global D) (runs : List (StationRun I O)) : Type 0 where

@@ -11,7 +11,7 @@ use Rattle.flusher.specs.declared.session.Session.{Session}
 use Rattle.stations.specs.OfSession.{at_session, of_session}
 
 -- The session was asked for a listing, and its text was to be added to `text`. It was added, or `text` is unchanged and an outage word says why.
--- The session only read.
+-- The session only read. `more` is the text after the call. `may_order` says whether the session's station may give orders.
 pub record AddsListing {J : Type 0} (base : State) (may_order : Bool) (listing : Listing) (old new : Session J) (text more : Vec Byte Global)
     (result : Result Unit Outage) : Type 0 where
   pub listed : OnOk result (IsListed (of_session J base may_order) (at_session old) listing text.items more.items (at_session new))
