@@ -27,7 +27,7 @@ is_of_records (kind.Record commands) = true
 is_of_records kind.Gate = true
 is_of_records _ = false
 
--- how many rows of a kind are damaged
+-- how many damaged sectors are to hold a row of this kind
 abbrev pub rows_in : DamageKind → List Damage → ℕ
 rows_in row damaged = length (filter (λ it. is_row_of row it.kind) damaged)
 

@@ -54,7 +54,8 @@ abbrev pub stop_text : Option Sector → ℕ → List Byte
 stop_text None later = codes " records none\n"
 stop_text (Some at) later = codes " records from " ++ decimal at ++ codes " and " ++ decimal later ++ codes " later\n"
 
--- the line of what is left, put together from its parts
+-- The line of what is left, put together from its parts. `bad` is the first record that is not applied as a whole, and `later` counts the records
+-- after it that can be read.
 abbrev pub rest_line : Side → Epoch → ℕ → LeftOut → Option Sector → ℕ → List Byte
 rest_line side epoch count out bad later = taken_text side epoch count ++ left_out_text out ++ stop_text bad later
 
@@ -62,7 +63,7 @@ rest_line side epoch count out bad later = taken_text side epoch count ++ left_o
 abbrev pub no_rest_line : List Byte
 no_rest_line = codes "rest none\n"
 
--- the line of what is left
+-- the line of what is left, as `rest` states it
 abbrev pub line_of : {A : Type 0} → Rest A → List Byte
 line_of rest = rest_line rest.side rest.epoch rest.register.count rest.left_out rest.stop rest.later
 

@@ -50,7 +50,7 @@ module _ {A : Type 0} where
   abbrev pub IsTextOf : Answer A → List Byte → Bool → Type 0
   IsTextOf given out troubled = IsWhole given out troubled ⊎ GivesWay given out troubled
 
--- the line asks for no listing
+-- the line asks for no listing; A is the allocator of its bytes
 abbrev pub HasNoListing : (A : Type 0) → Line A → Type 0
 HasNoListing A (line.Print l) = ⊥
 HasNoListing A other = Unit {0}
