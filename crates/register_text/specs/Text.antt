@@ -107,16 +107,16 @@ pub record TextLoading : Type 0 where
 abbrev pub text_begun : Limits → TextLoading
 text_begun limits = record { stated = None; headed = false; rows = begun limits }
 
--- the first line and these rows were taken
+-- the first line was taken, and `l` is what the rows taken so far make
 abbrev pub with_rows : Loading → Result TextLoading Cause
 with_rows l = Ok (record { stated = None; headed = true; rows = l })
 
--- the outcome of the first line
+-- the outcome of the first line, by whether the line may come first (`is_head`)
 abbrev pub head_taken : Option ℕ → Loading → Bool → Result TextLoading Cause
 head_taken stated l true = Ok (record { stated = stated; headed = true; rows = l })
 head_taken stated l false = Err cause.Head
 
--- the outcome of a line before the rows, by the number that it states
+-- the outcome of a line before the rows, by the number that it states; if it states none, it must be the first line
 abbrev pub count_taken : Option ℕ → Loading → List Byte → Option ℕ → Result TextLoading Cause
 count_taken stated l line None = head_taken stated l (is_head line)
 count_taken stated l line (Some n) = Ok (record { stated = Some n; headed = false; rows = l })
@@ -144,7 +144,7 @@ line_taken_by true stated l line = or_spelling stated l (line_row line)
 unfoldable pub line_taken : TextLoading → List Byte → Result TextLoading Cause
 line_taken t line = line_taken_by t.headed t.stated t.rows line
 
--- goes on after a line that was taken
+-- what `more` makes of the loading after a line that was taken; if the line was not, the cause
 abbrev pub then_lines : Result TextLoading Cause → (TextLoading → Result TextLoading Cause) → Result TextLoading Cause
 then_lines (Err cause) more = Err cause
 then_lines (Ok t) more = more t
@@ -163,7 +163,7 @@ state_of (Some x) = Some x.1
 abbrev pub text_finished : TextLoading → Option State
 text_finished t = state_of (finished t.rows)
 
--- the state of a whole text
+-- the state that a text makes, if each of its lines was taken and none is missing
 abbrev pub whole : Result TextLoading Cause → Option State
 whole (Err cause) = None
 whole (Ok t) = text_finished t
