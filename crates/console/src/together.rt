@@ -42,6 +42,12 @@ pub(crate) struct Together<A: Allocator> {
     ghost page_room: { 8192 ≤ vec_capacity page },
 }
 
+/// Whether there is a digit at this place. Only lines that begin with one ask for commands.
+#[inline(always)]
+fn has_digit(text: &[u8], at: usize) -> bool {
+    at < text.len() && text[at].is_ascii_digit()
+}
+
 /// Adds the answer to a command, and returns whether it is trouble.
 fn put_result<A: Allocator, B: Allocator>(
     out: &mut Vec<u8, A>,
@@ -89,7 +95,28 @@ fn give_result<A: Allocator, B: Allocator, W: Write, G: Ledger>(
     troubled
 }
 
+/// As `make_room`, for a page that has no room.
+fn write_page<A: Allocator, W: Write, G: Ledger>(
+    page: &mut Vec<u8, A>,
+    output: &mut Output<W, G>,
+) -> Result<(), RunFault>
+    requires page { 8192 ≤ vec_capacity page.old }
+    ensures ok { OnOk result (Passes (sent_by W.contents output.old) (sent_by W.contents output.new) page.old.items [] page.new.items) }
+    ensures err { OnErr result ((left : List ℕ) × Passes (sent_by W.contents output.old) (sent_by W.contents output.new) page.old.items [] left) }
+    ensures room { OnOk result (vec_len page.new + answer_room ≤ vec_capacity page.new) }
+    ensures capacity { vec_capacity page.old ≤ vec_capacity page.new }
+    ensures stops { IfErr result (λ e. e ≡ RunFault.Write) }
+    ensures writer { output.new.writer.ghost_name ≡ output.old.writer.ghost_name }
+    ensures failures { output.new.failures.ghost_name ≡ output.old.failures.ghost_name }
+    ensures ledger { output.new.failures.now ≡ output.old.failures.now + failures_reported result }
+{
+    output.send(page.as_slice())?;
+    page.clear();
+    Ok(())
+}
+
 /// Writes the text of the page, and clears it, if the page has no room for one more answer.
+#[inline(always)]
 fn make_room<A: Allocator, W: Write, G: Ledger>(
     page: &mut Vec<u8, A>,
     output: &mut Output<W, G>,
@@ -107,9 +134,7 @@ fn make_room<A: Allocator, W: Write, G: Ledger>(
     if page.len() <= PAGE - ANSWER {
         return Ok(());
     }
-    output.send(page.as_slice())?;
-    page.clear();
-    Ok(())
+    write_page(page, output)
 }
 
 /// Writes the answers to commands, and returns whether there is trouble in them.
@@ -170,8 +195,8 @@ impl<A: Allocator + Copy + Drop> Together<A> {
         }
     }
 
-    /// Takes whole lines from the beginning of the text, at most `most`, as long as `add` adds the command of each. It returns
-    /// how many bytes were taken.
+    /// Takes whole lines from the beginning of the text, at most `most`, as long as each begins with a digit and `add` adds its
+    /// command. It returns how many bytes were taken.
     pub(crate) fn collect(&mut self, terms: &Terms<A>, text: &[u8], most: usize) -> usize
         requires most { most ≤ 64 }
         ensures within { result ≤ length text.now }
@@ -183,6 +208,9 @@ impl<A: Allocator + Copy + Drop> Together<A> {
         self.commands.clear();
         let mut at = 0;
         for _ in 0..most {
+            if !has_digit(text, at) {
+                return at;
+            }
             let Some(end) = next_end(text, at) else {
                 return at;
             };
