@@ -1,6 +1,7 @@
 //! Disks over files of the operating system.
 
 use crate::parts::pattern;
+use crate::runs;
 use file_disk::{FileDisk, FileFault, HostFile, OpenCause};
 use sector_disk::{Disk, DiskError};
 use std::fs::{File, OpenOptions};
@@ -181,5 +182,30 @@ fn a_great_disk_is_written_in_its_places(rt: HostRuntime) -> Result<(), Fail> {
     let great = is_great(&rt, "great.disk")?;
     fs::remove_file(&rt, "great.disk")?;
     assert!(rt; great);
+    Ok(())
+}
+
+/// Whether a run of three sectors, written to the second sector of a new file and synced, is in the file there. The file's other
+/// sectors hold zeros.
+fn is_run_there(rt: &HostRuntime, path: &str) -> io::Result<bool> {
+    let run = runs::pattern();
+    let Ok(mut disk) = FileDisk::create(rt, path, 6) else {
+        return Ok(false);
+    };
+    let written = runs::write_three(&mut disk, &run) == Some(Ok(())) && disk.sync().is_ok();
+    let file = File::open(rt, path)?;
+    let mut bytes = [9; 3073];
+    let whole = file.read_at(&mut bytes, 0)? == 3072;
+    let there = &bytes[512..2048] == run.as_slice() && &bytes[..512] == [0; 512].as_slice();
+    let beside = &bytes[2048..3072] == [0; 1024].as_slice();
+    Ok(written && whole && there && beside && disk.failures() == 0)
+}
+
+#[test]
+fn a_run_is_in_the_file_in_its_place(rt: HostRuntime) -> Result<(), Fail> {
+    let _ = fs::remove_file(&rt, "run.disk");
+    let there = is_run_there(&rt, "run.disk")?;
+    fs::remove_file(&rt, "run.disk")?;
+    assert!(rt; there);
     Ok(())
 }

@@ -6,3 +6,6 @@ mod host_files;
 pub mod part_file;
 #[cfg(test)]
 mod parts;
+#[cfg(test)]
+mod runs;
+pub mod step_file;

@@ -18,6 +18,8 @@ mod one_by_one;
 #[cfg(test)]
 mod rules_and_radios;
 #[cfg(test)]
+mod runs;
+#[cfg(test)]
 mod sectors;
 #[cfg(test)]
 mod short_data;

@@ -6,9 +6,9 @@ use std::test::Fail;
 
 /// A disk that is never honest, and fails each call in range.
 #[derive(Drop)]
-struct DeadDisk {
-    sectors: u64,
-    failures: u64,
+pub struct DeadDisk {
+    pub sectors: u64,
+    pub failures: u64,
 }
 
 impl Disk for DeadDisk {
@@ -72,7 +72,7 @@ enum Call {
 }
 
 /// The byte that a read gives, where all are alike; else 255.
-fn byte_of<D: Disk>(disk: &mut D, at: u64) -> Result<u8, DiskError> {
+pub fn byte_of<D: Disk>(disk: &mut D, at: u64) -> Result<u8, DiskError> {
     let mut bytes = [7; 512];
     disk.read(at, &mut bytes)?;
     let byte = bytes[0];
@@ -97,7 +97,7 @@ fn are_answered<D: Disk>(disk: &mut D, calls: &[Call]) -> bool {
     true
 }
 
-fn are_pending(alloc: Global, disk: &MemoryDisk<Global>, want: &[u64]) -> bool {
+pub fn are_pending(alloc: Global, disk: &MemoryDisk<Global>, want: &[u64]) -> bool {
     match disk.pending(alloc) {
         Ok(pending) => pending.as_slice() == want,
         Err(_) => false,
