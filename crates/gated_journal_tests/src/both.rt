@@ -29,7 +29,7 @@ fn begins<D: Disk>(disk: &mut D, at: u64, head: &[u8]) -> Result<bool, DiskError
 }
 
 /// Adds one record to both halves, where it fits both.
-fn add_both<D: Disk>(
+pub fn add_both<D: Disk>(
     first: &mut Journal<Global>,
     second: &mut Journal<Global>,
     disk: &mut D,
@@ -70,7 +70,7 @@ fn add_ten<D: Disk>(
 }
 
 /// Adds ten records to the first half, and the eleventh to both. Returns the answer, and the room of each half then.
-fn eleven<D: Disk>(
+pub fn eleven<D: Disk>(
     alloc: Global,
     disk: &mut D,
     command: &Command<Global>,

@@ -4,6 +4,8 @@
 #[cfg(test)]
 mod both;
 #[cfg(test)]
+mod calls;
+#[cfg(test)]
 mod damaged;
 #[cfg(test)]
 mod growths;

@@ -240,7 +240,7 @@ fn a_record_counts_once_its_gate_is_open(rt: HostRuntime) -> Result<(), Fail> {
     Ok(())
 }
 
-fn are_recorded<D: Disk>(
+pub fn are_recorded<D: Disk>(
     alloc: Global,
     disk: &mut D,
     form: Form,

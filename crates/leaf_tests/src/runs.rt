@@ -117,7 +117,8 @@ fn fill_of(left: [u8; 3]) -> [(u64, [u8; 512]); 5] {
     ]
 }
 
-/// Whether a stop before the sync leaves these bytes in the run, and none in the sectors beside it. After the sync it leaves the run.
+/// Whether a stop before the sync leaves these bytes in the run, and the sectors beside it as they were. After the sync it leaves
+/// the run.
 fn is_left(alloc: Global, left: [u8; 3]) -> Result<bool, AllocError> {
     let mut unsynced = five(alloc)?;
     let mut synced = five(alloc)?;
