@@ -185,6 +185,12 @@ fn a_great_disk_is_written_in_its_places(rt: HostRuntime) -> Result<(), Fail> {
     Ok(())
 }
 
+/// Whether the first sector and the fifth and sixth hold zeros.
+fn are_zeros_beside(bytes: &[u8]) -> bool {
+    bytes.get(..512) == Some([0; 512].as_slice())
+        && bytes.get(2048..3072) == Some([0; 1024].as_slice())
+}
+
 /// Whether a run of three sectors, written to the second sector of a new file and synced, is in the file there. The file's other
 /// sectors hold zeros.
 fn is_run_there(rt: &HostRuntime, path: &str) -> io::Result<bool> {
@@ -196,9 +202,8 @@ fn is_run_there(rt: &HostRuntime, path: &str) -> io::Result<bool> {
     let file = File::open(rt, path)?;
     let mut bytes = [9; 3073];
     let whole = file.read_at(&mut bytes, 0)? == 3072;
-    let there = &bytes[512..2048] == run.as_slice() && &bytes[..512] == [0; 512].as_slice();
-    let beside = &bytes[2048..3072] == [0; 1024].as_slice();
-    Ok(written && whole && there && beside && disk.failures() == 0)
+    let there = bytes.get(512..2048) == Some(run.as_slice());
+    Ok(written && whole && there && are_zeros_beside(&bytes) && disk.failures() == 0)
 }
 
 #[test]
