@@ -6,7 +6,7 @@ use Rattle.std.proofs.lemmas.List.{length-append, length-replicate, length-take,
 use Rattle.std.proofs.lemmas.List.FromFn.{fill_by_all}
 use Rattle.std.proofs.lemmas.Bool.{cases_lt}
 use Rattle.sector_disk.specs.Filling.{part_of}
-use Rattle.gated_journal.specs.Inside.Filling.{IsPadded}
+use Rattle.gated_journal.specs.Inside.Padded.{IsPadded}
 use Rattle.gated_journal.specs.Record.{data_sector}
 
 pub zeros_at : (z i : ℕ) → slice_index (replicate z 0) i ≡ 0

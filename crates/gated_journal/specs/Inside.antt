@@ -1,4 +1,5 @@
 pub mod Filling
+pub mod Padded
 pub mod Next
 pub mod Room
 pub mod Reading

@@ -11,7 +11,7 @@ ghost use Rattle.gated_journal.specs.declared.form.Form.{Form};
 ghost use Rattle.gated_journal.specs.declared.place.Place.{Place};
 ghost use Rattle.gated_journal.specs.Adding.{AddsOne, AddsToBoth, IsOfAppend};
 ghost use Rattle.gated_journal.specs.Inside.Next.{IsCountOfNext, IsNext};
-ghost use Rattle.gated_journal.specs.Inside.Filling.{IsPadded};
+ghost use Rattle.gated_journal.specs.Inside.Padded.{IsPadded};
 ghost use Rattle.gated_journal.specs.Inside.Room.{capacity, text_room};
 ghost use Rattle.gated_journal.specs.Reading.{Answers, AreJudged, Continues, HasCalledTimes, HasRecordIn, IsOfJudging, IsOfReading, IsUnreadOrWhole, MovesOn};
 ghost use Rattle.gated_journal.specs.Reading.{IsReadOnce, entries_view, half_view, next_view};
@@ -19,6 +19,7 @@ ghost use Rattle.gated_journal.specs.Record.{data_size, first_text, given, most_
 ghost use Rattle.gated_journal.specs.Settled.{HasNumbersLeft, half_in, record_in, room_of, text_at};
 
 use crate::both::append_texts;
+use crate::padded::Padded;
 use crate::place::sectors_for;
 use crate::reading::{MOST_SECTORS, judge_half, read_or_judge, read_record};
 use crate::record_text::RecordText;
@@ -149,9 +150,12 @@ impl<A: Allocator> Journal<A> {
             → (result ≡ Err JournalError.JournalFull) × (disk.new ≡ disk.old) }
     {
         let len = put_padded(&mut self.text, &self.place, commands);
-        let padded = self.text.as_slice();
-        self.place
-            .append_text::<A, D>(disk, &padded[..len], padded)?;
+        let bytes = self.text.as_slice();
+        let data = Padded {
+            text: &bytes[..len],
+            bytes,
+        };
+        self.place.append_text::<A, D>(disk, &data)?;
         self.place.count += commands.len() as u64;
         Ok(())
     }
@@ -188,17 +192,17 @@ impl<A: Allocator> Journal<A> {
     {
         let len = put_padded(&mut self.text, &self.place, commands);
         let other_len = put_padded(&mut other.text, &other.place, commands);
-        let padded = self.text.as_slice();
-        let other_padded = other.text.as_slice();
-        append_texts::<A, D>(
-            disk,
-            &mut self.place,
-            &mut other.place,
-            &padded[..len],
-            padded,
-            &other_padded[..other_len],
-            other_padded,
-        )?;
+        let bytes = self.text.as_slice();
+        let data = Padded {
+            text: &bytes[..len],
+            bytes,
+        };
+        let other_bytes = other.text.as_slice();
+        let other_data = Padded {
+            text: &other_bytes[..other_len],
+            bytes: other_bytes,
+        };
+        append_texts::<A, D>(disk, &mut self.place, &mut other.place, &data, &other_data)?;
         self.place.count += commands.len() as u64;
         other.place.count += commands.len() as u64;
         Ok(())

@@ -9,6 +9,7 @@ mod fault;
 mod form;
 mod journal;
 pub mod laws;
+mod padded;
 mod place;
 mod reading;
 mod record;

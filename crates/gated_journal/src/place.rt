@@ -7,10 +7,10 @@ ghost use Rattle.gated_journal.specs.declared.fault.JournalError.TheVariants.{Di
 ghost use Rattle.gated_journal.specs.Adding.{IsOfAppend};
 ghost use Rattle.gated_journal.specs.Calls.{settled_calls};
 ghost use Rattle.gated_journal.specs.Inside.Adding.{AddsText};
-ghost use Rattle.gated_journal.specs.Inside.Filling.{IsPadded};
 ghost use Rattle.gated_journal.specs.Record.{data_sector, data_size, sectors_for};
 ghost use Rattle.gated_journal.specs.Settled.{room_of};
 
+use crate::padded::Padded;
 use crate::{Form, JournalError};
 use sector_disk::{Disk, DiskError};
 use std::alloc::Allocator;
@@ -43,32 +43,34 @@ impl Place {
     pub(crate) fn append_text<A: Allocator, D: Disk>(
         &mut self,
         disk: &mut D,
-        text: &[u8],
-        padded: &[u8],
+        data: &Padded<'_>,
     ) -> Result<(), JournalError>
         requires end { self.old.end ≤ (D.view disk.old).sectors }
         requires up { self.old.first ≤ self.old.next }
-        requires some { 0 < length text.now }
-        requires small { length text.now < 2 ^ 32 }
-        requires padded { IsPadded text.now padded.now }
+        requires some { 0 < length data.now.text.now }
+        requires small { length data.now.text.now < 2 ^ 32 }
 
         // A stop leaves the records with the new one or without it. At `Ok` a stop after the call leaves the new one too.
-        ensures adds { AddsText A (D.view disk.old) (D.view disk.new) self.old self.new text.now result }
+        ensures adds { AddsText A (D.view disk.old) (D.view disk.new) self.old self.new data.now.text.now result }
         ensures same { OnErr result (self.new ≡ self.old) }
         ensures keeps { KeepsDisk (D.view disk.old) (D.view disk.new) (IsErrOf result JournalError.DiskFault) }
 
         // It fails only where the record has no room, or where the device has failed.
         ensures kinds { IfErr result IsOfAppend }
-        ensures full { IsErrOf result JournalError.JournalFull → room_of self.old < data_size text.now }
-        ensures no_room { room_of self.old < data_size text.now → (result ≡ Err JournalError.JournalFull) × (disk.new ≡ disk.old) }
+        ensures full { IsErrOf result JournalError.JournalFull → room_of self.old < data_size data.now.text.now }
+        ensures no_room { room_of self.old < data_size data.now.text.now → (result ≡ Err JournalError.JournalFull) × (disk.new ≡ disk.old) }
     {
-        let size = sectors_for(text.len() as u64);
+        let size = sectors_for(data.text.len() as u64);
         if self.room() < size {
             return Err(JournalError::JournalFull);
         }
         // The text and the gate after it, closed. Then the record's gate, open.
-        settle(disk, self.next + 1, size + 1, text, padded)?;
-        settle(disk, self.next, 1, &[1], &[1])?;
+        settle(disk, self.next + 1, size + 1, data)?;
+        let open = Padded {
+            text: &[1],
+            bytes: &[1],
+        };
+        settle(disk, self.next, 1, &open)?;
         self.next += size + 1;
         Ok(())
     }
@@ -114,41 +116,32 @@ pub(crate) fn fill<D: Disk>(
     disk: &mut D,
     at: u64,
     n: u64,
-    text: &[u8],
-    padded: &[u8],
+    data: &Padded<'_>,
 ) -> Result<(), DiskError>
     requires room { at + n ≤ (D.view disk.old).sectors }
     requires fits { at + n < 2 ^ 64 }
     requires small { n < 2 ^ 32 }
-    requires padded { IsPadded text.now padded.now }
-    ensures effect { (D.view disk.old).honest → HasFilled (D.view disk.old) (D.view disk.new) at n (data_sector text.now) result }
-    ensures runs { Runs (D.view disk.old) (D.view disk.new) (writes at n (data_sector text.now)) result }
+    ensures effect { (D.view disk.old).honest → HasFilled (D.view disk.old) (D.view disk.new) at n (data_sector data.now.text.now) result }
+    ensures runs { Runs (D.view disk.old) (D.view disk.new) (writes at n (data_sector data.now.text.now)) result }
 {
-    if padded.len() as u64 == 512 * n {
-        return disk.write_run(at, padded);
+    if data.bytes.len() as u64 == 512 * n {
+        return disk.write_run(at, data.bytes);
     }
     for k in 0..n {
-        disk.write(at + k, &sector_of(text, k as usize))?;
+        disk.write(at + k, &sector_of(data.text, k as usize))?;
     }
     Ok(())
 }
 
 // Writes the first n sectors of a text from the disk's sector `at` on, and syncs them.
-fn settle<D: Disk>(
-    disk: &mut D,
-    at: u64,
-    n: u64,
-    text: &[u8],
-    padded: &[u8],
-) -> Result<(), DiskError>
+fn settle<D: Disk>(disk: &mut D, at: u64, n: u64, data: &Padded<'_>) -> Result<(), DiskError>
     requires room { at + n ≤ (D.view disk.old).sectors }
     requires fits { at + n < 2 ^ 64 }
     requires small { n < 2 ^ 32 }
-    requires padded { IsPadded text.now padded.now }
-    ensures effect { (D.view disk.old).honest → HasFilled (D.view disk.old) (D.view disk.new) at n (data_sector text.now) result }
+    ensures effect { (D.view disk.old).honest → HasFilled (D.view disk.old) (D.view disk.new) at n (data_sector data.now.text.now) result }
     ensures durable { (D.view disk.old).honest → OnOk result ((k : ℕ) → (D.view disk.new).pending k ≡ false) }
-    ensures runs { Runs (D.view disk.old) (D.view disk.new) (settled_calls at n text.now) result }
+    ensures runs { Runs (D.view disk.old) (D.view disk.new) (settled_calls at n data.now.text.now) result }
 {
-    fill(disk, at, n, text, padded)?;
+    fill(disk, at, n, data)?;
     disk.sync()
 }

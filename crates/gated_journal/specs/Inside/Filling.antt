@@ -22,15 +22,11 @@ pub record HasFilledTwice (old new : View) (at : Sector) (n : Sectors) (bytes : 
   pub written : OnOk result ((k : ℕ) → k < n → sector new.reads (at + k) ≡ bytes k)
   pub also : OnOk result ((k : ℕ) → k < m → sector new.reads (to + k) ≡ more k)
 
--- `padded` is the text, with zeros after it: it has the same sectors.
-abbrev pub IsPadded : List Byte → List Byte → Type 0
-IsPadded text padded = (k : ℕ) → data_sector padded k ≡ data_sector text k
-
 -- The runs x and y are written, x first, and do to the disk what `HasFilledTwice` states. A run writes the first `sectors` sectors
 -- of its text, from the disk's sector `at` on.
 abbrev pub AreFilled : View → View → SectorRun → SectorRun → Result Unit DiskError → Type 0
-AreFilled old new x y result = HasFilledTwice old new x.at x.sectors (data_sector x.text.now) y.at y.sectors (data_sector y.text.now) result
+AreFilled old new x y result = HasFilledTwice old new x.at x.sectors (data_sector x.data.now.text.now) y.at y.sectors (data_sector y.data.now.text.now) result
 
 -- the sectors of x are written, then those of y, and both are synced
 abbrev pub both_calls : SectorRun → SectorRun → List Call
-both_calls x y = settled_both_calls x.at x.sectors x.text.now y.at y.sectors y.text.now
+both_calls x y = settled_both_calls x.at x.sectors x.data.now.text.now y.at y.sectors y.data.now.text.now

@@ -12,11 +12,11 @@ use Rattle.gated_journal.proofs.both.append_texts.Goals as goal
 pub settle_both-requires-clause-apart : goal.settle_both-requires-clause-apart
 settle_both-requires-clause-apart g c =
     rw (c.sectors_for-size.ensures, c.sectors_for-other_size.ensures)
-    (texts_apart c.args.place.now c.args.other.now c.args.text.now c.args.other_text.now c.requires.apart c.requires.up c.requires.other_up
+    (texts_apart c.args.place.now c.args.other.now c.args.data.now.text.now c.args.other_data.now.text.now c.requires.apart c.requires.up c.requires.other_up
     c.requires.fits c.requires.other_fits)
 
 pub settle_both-requires-2-clause-apart : goal.settle_both-requires-2-clause-apart
-settle_both-requires-2-clause-apart g c = gates_apart c.args.place.now c.args.other.now c.args.text.now c.args.other_text.now c.requires.apart
+settle_both-requires-2-clause-apart g c = gates_apart c.args.place.now c.args.other.now c.args.data.now.text.now c.args.other_data.now.text.now c.requires.apart
     c.requires.up c.requires.other_up c.requires.fits c.requires.other_fits
 
 pub returns-in_err-settle_both-clause-adds : goal.returns-in_err-settle_both-clause-adds
@@ -26,9 +26,9 @@ returns-in_err-settle_both-clause-adds g c =
       any_moment = λ before start entries others commands is other_is honest settled also.
           let x : Place = c.args.place.now in
           let y : Place = c.args.other.now in
-          fills x y before start entries others commands c.args.text.now c.args.other_text.now
-          (is_adding x before entries commands c.args.text.now is settled.counts c.requires.fits)
-          (is_adding y start others commands c.args.other_text.now other_is also.counts c.requires.other_fits) c.requires.apart
+          fills x y before start entries others commands c.args.data.now.text.now c.args.other_data.now.text.now
+          (is_adding x before entries commands c.args.data.now.text.now is settled.counts c.requires.fits)
+          (is_adding y start others commands c.args.other_data.now.text.now other_is also.counts c.requires.other_fits) c.requires.apart
           (g.D.Disk.view c.args.disk.now) (g.met.D.Disk.sound c.args.disk.now honest).reads_left settled also (g.D.Disk.view c.settle_both.new.disk) _
           (rw (c.sectors_for-size.ensures, c.sectors_for-other_size.ensures) at (c.in_err-settle_both.ensures.effect honest));
       acknowledged = tt;
@@ -38,7 +38,7 @@ returns-in_err-settle_both-clause-adds g c =
       other_next = tt;
       calls = tt;
       some_calls =
-          made_in_texts c.args.place.now.next c.args.text.now c.args.other.now.next c.args.other_text.now
+          made_in_texts c.args.place.now.next c.args.data.now.text.now c.args.other.now.next c.args.other_data.now.text.now
           (g.D.Disk.view c.args.disk.now) (g.D.Disk.view c.settle_both.new.disk)
           (rw (c.sectors_for-size.ensures, c.sectors_for-other_size.ensures) at c.settle_both.ensures.runs.some_calls);
     })
@@ -51,9 +51,9 @@ returns-in_err-settle_both-2-clause-adds g c =
           let x : Place = c.args.place.now in
           let y : Place = c.args.other.now in
           let has = rw (c.sectors_for-size.ensures, c.sectors_for-other_size.ensures) at (c.in_ok-settle_both.ensures.effect honest) in
-          opens x y before start entries others commands c.args.text.now c.args.other_text.now
-          (is_adding x before entries commands c.args.text.now is settled.counts c.requires.fits)
-          (is_adding y start others commands c.args.other_text.now other_is also.counts c.requires.other_fits) c.requires.apart
+          opens x y before start entries others commands c.args.data.now.text.now c.args.other_data.now.text.now
+          (is_adding x before entries commands c.args.data.now.text.now is settled.counts c.requires.fits)
+          (is_adding y start others commands c.args.other_data.now.text.now other_is also.counts c.requires.other_fits) c.requires.apart
           (g.D.Disk.view c.args.disk.now) (g.met.D.Disk.sound c.args.disk.now honest).reads_left settled also (g.D.Disk.view c.settle_both.new.disk) has
           (c.in_ok-settle_both.ensures.durable honest) (g.D.Disk.view c.settle_both-2.new.disk) (data_sector (1 ∷ [])) (data_sector (1 ∷ [])) _
           (c.in_err-settle_both-2.ensures.effect has.honest);
@@ -64,7 +64,7 @@ returns-in_err-settle_both-2-clause-adds g c =
       other_next = tt;
       calls = tt;
       some_calls =
-          made_in_gates c.args.place.now.next c.args.text.now c.args.other.now.next c.args.other_text.now
+          made_in_gates c.args.place.now.next c.args.data.now.text.now c.args.other.now.next c.args.other_data.now.text.now
           (g.D.Disk.view c.args.disk.now) (g.D.Disk.view c.settle_both.new.disk) (g.D.Disk.view c.settle_both-2.new.disk)
           (rw (c.sectors_for-size.ensures, c.sectors_for-other_size.ensures) at c.in_ok-settle_both.ensures.runs.calls) c.settle_both-2.ensures.runs.some_calls;
     })
@@ -75,9 +75,9 @@ returns-clause-adds g c = record {
       let x : Place = c.args.place.now in
       let y : Place = c.args.other.now in
       let has = rw (c.sectors_for-size.ensures, c.sectors_for-other_size.ensures) at (c.in_ok-settle_both.ensures.effect honest) in
-      opens x y before start entries others commands c.args.text.now c.args.other_text.now
-      (is_adding x before entries commands c.args.text.now is settled.counts c.requires.fits)
-      (is_adding y start others commands c.args.other_text.now other_is also.counts c.requires.other_fits) c.requires.apart
+      opens x y before start entries others commands c.args.data.now.text.now c.args.other_data.now.text.now
+      (is_adding x before entries commands c.args.data.now.text.now is settled.counts c.requires.fits)
+      (is_adding y start others commands c.args.other_data.now.text.now other_is also.counts c.requires.other_fits) c.requires.apart
       (g.D.Disk.view c.args.disk.now) (g.met.D.Disk.sound c.args.disk.now honest).reads_left settled also (g.D.Disk.view c.settle_both.new.disk) has
       (c.in_ok-settle_both.ensures.durable honest) (g.D.Disk.view c.settle_both-2.new.disk) (data_sector (1 ∷ [])) (data_sector (1 ∷ [])) _
       (c.in_ok-settle_both-2.ensures.effect has.honest);
@@ -87,9 +87,9 @@ returns-clause-adds g c = record {
       let has = rw (c.sectors_for-size.ensures, c.sectors_for-other_size.ensures) at (c.in_ok-settle_both.ensures.effect honest) in
       let opened = ap (λ bytes. slice_index bytes 0) (sym open_gate_is) in
       rw (c.sectors_for-size.ensures, c.sectors_for-other_size.ensures)
-      (at_end x y before start entries others commands c.args.text.now c.args.other_text.now
-      (is_adding x before entries commands c.args.text.now is settled.counts c.requires.fits)
-      (is_adding y start others commands c.args.other_text.now other_is also.counts c.requires.other_fits) c.requires.apart
+      (at_end x y before start entries others commands c.args.data.now.text.now c.args.other_data.now.text.now
+      (is_adding x before entries commands c.args.data.now.text.now is settled.counts c.requires.fits)
+      (is_adding y start others commands c.args.other_data.now.text.now other_is also.counts c.requires.other_fits) c.requires.apart
       (g.D.Disk.view c.args.disk.now) (g.met.D.Disk.sound c.args.disk.now honest).reads_left settled also (g.D.Disk.view c.settle_both.new.disk) has
       (c.in_ok-settle_both.ensures.durable honest) (g.D.Disk.view c.settle_both-2.new.disk) (data_sector (1 ∷ [])) (data_sector (1 ∷ []))
       (c.in_ok-settle_both-2.ensures.effect has.honest) (c.in_ok-settle_both-2.ensures.durable has.honest) opened opened);
@@ -97,18 +97,18 @@ returns-clause-adds g c = record {
       let has = c.in_ok-settle_both.ensures.effect honest in c.in_ok-settle_both-2.ensures.durable has.honest;
   elsewhere = λ honest.
       let has = rw (c.sectors_for-size.ensures, c.sectors_for-other_size.ensures) at (c.in_ok-settle_both.ensures.effect honest) in
-      elsewhere c.args.place.now c.args.other.now c.args.text.now c.args.other_text.now c.requires.up c.requires.other_up c.requires.fits
+      elsewhere c.args.place.now c.args.other.now c.args.data.now.text.now c.args.other_data.now.text.now c.requires.up c.requires.other_up c.requires.fits
       c.requires.other_fits (g.D.Disk.view c.args.disk.now) (g.D.Disk.view c.settle_both.new.disk) (g.D.Disk.view c.settle_both-2.new.disk)
-      (data_sector c.args.text.now) (data_sector c.args.other_text.now) (data_sector (1 ∷ [])) (data_sector (1 ∷ [])) _ _ has
+      (data_sector c.args.data.now.text.now) (data_sector c.args.other_data.now.text.now) (data_sector (1 ∷ [])) (data_sector (1 ∷ [])) _ _ has
       (c.in_ok-settle_both-2.ensures.effect has.honest);
   next = search rules;
   other_next = search rules;
   calls =
-      made_at_end c.args.place.now.next c.args.text.now c.args.other.now.next c.args.other_text.now
+      made_at_end c.args.place.now.next c.args.data.now.text.now c.args.other.now.next c.args.other_data.now.text.now
       (g.D.Disk.view c.args.disk.now) (g.D.Disk.view c.settle_both.new.disk) (g.D.Disk.view c.settle_both-2.new.disk)
       (rw (c.sectors_for-size.ensures, c.sectors_for-other_size.ensures) at c.in_ok-settle_both.ensures.runs.calls) c.in_ok-settle_both-2.ensures.runs.calls;
   some_calls =
-      made_in_gates c.args.place.now.next c.args.text.now c.args.other.now.next c.args.other_text.now
+      made_in_gates c.args.place.now.next c.args.data.now.text.now c.args.other.now.next c.args.other_data.now.text.now
       (g.D.Disk.view c.args.disk.now) (g.D.Disk.view c.settle_both.new.disk) (g.D.Disk.view c.settle_both-2.new.disk)
       (rw (c.sectors_for-size.ensures, c.sectors_for-other_size.ensures) at c.in_ok-settle_both.ensures.runs.calls) c.settle_both-2.ensures.runs.some_calls;
 }

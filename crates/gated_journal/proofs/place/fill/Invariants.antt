@@ -12,6 +12,6 @@ invariant-loop-k g l =
     record {
       sectors : now.sectors ≡ old.sectors;
       failures : old.failures ≤ now.failures;
-      calls : now.calls ≡ old.calls ++ writes l.at l.k (data_sector l.text);
-      filled : old.honest → HasFilled old now l.at l.k (data_sector l.text) (Ok tt);
+      calls : now.calls ≡ old.calls ++ writes l.at l.k (data_sector l.data.text.now);
+      filled : old.honest → HasFilled old now l.at l.k (data_sector l.data.text.now) (Ok tt);
     }

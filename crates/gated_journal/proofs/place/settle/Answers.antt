@@ -21,7 +21,7 @@ returns-in_err-fill-clause-runs g c =
     let was = c.in_err-fill.ensures.runs in
     rw (p.1, p.2) (record {
       calls = tt;
-      some_calls = made_of_more (g.D.Disk.view c.args.disk.now) (g.D.Disk.view c.fill.new.disk) (writes c.args.at c.args.n (data_sector c.args.text.now)) (Sync ∷ [])
+      some_calls = made_of_more (g.D.Disk.view c.args.disk.now) (g.D.Disk.view c.fill.new.disk) (writes c.args.at c.args.n (data_sector c.args.data.now.text.now)) (Sync ∷ [])
           was.some_calls;
       keeps = was.keeps;
       in_range = was.in_range;
@@ -34,8 +34,8 @@ returns-clause-runs g c =
     let new : View = g.D.Disk.view c.sync.new.self in
     let was = c.in_ok-fill.ensures.runs in
     record {
-      calls = settled_at_end old mid new c.args.at c.args.n c.args.text.now c.sync.result was.calls c.sync.ensures.called;
-      some_calls = made_on old mid new (writes c.args.at c.args.n (data_sector c.args.text.now)) [] Sync c.sync.result was.calls c.sync.ensures.called;
+      calls = settled_at_end old mid new c.args.at c.args.n c.args.data.now.text.now c.sync.result was.calls c.sync.ensures.called;
+      some_calls = made_on old mid new (writes c.args.at c.args.n (data_sector c.args.data.now.text.now)) [] Sync c.sync.result was.calls c.sync.ensures.called;
       keeps = keeps_on old mid new was.keeps (keeps_one mid new c.sync.result c.sync.ensures.cause c.sync.ensures.in_range (λ honest. (c.sync.ensures.effect honest).honest)) (λ e. e);
       in_range = c.sync.ensures.in_range;
     }

@@ -7,14 +7,14 @@ use Rattle.gated_journal.proofs.journal.Journal.append.Goals as goal
 
 pub append_text-requires-clause-some : goal.append_text-requires-clause-some
 append_text-requires-clause-some g c = let short = next_short _ (given g.row.A.Denot c.args.commands.now) _ c.put_padded-len.ensures.next in
-    omega (arith, ap (λ (bytes : List ℕ). length (take c.put_padded-len.result bytes)) c.as_slice-padded.ensures, short.0)
+    omega (arith, ap (λ (bytes : List ℕ). length (take c.put_padded-len.result bytes)) c.as_slice-bytes.ensures, short.0)
 
 pub append_text-requires-clause-small : goal.append_text-requires-clause-small
 append_text-requires-clause-small g c = let short = next_short _ (given g.row.A.Denot c.args.commands.now) _ c.put_padded-len.ensures.next in
-    omega (arith, ap (λ (bytes : List ℕ). length (take c.put_padded-len.result bytes)) c.as_slice-padded.ensures, short.1)
+    omega (arith, ap (λ (bytes : List ℕ). length (take c.put_padded-len.result bytes)) c.as_slice-bytes.ensures, short.1)
 
-pub append_text-requires-clause-padded : goal.append_text-requires-clause-padded
-append_text-requires-clause-padded g c = rw c.as_slice-padded.ensures c.put_padded-len.ensures.padded
+pub invariant_of-data : goal.invariant_of-data
+invariant_of-data g c = rw c.as_slice-bytes.ensures c.put_padded-len.ensures.padded
 
 pub put_padded-len-requires-clause-next : goal.put_padded-len-requires-clause-next
 put_padded-len-requires-clause-next g c = record {
@@ -27,9 +27,9 @@ pub returns-in_err-append_text-clause-adds : goal.returns-in_err-append_text-cla
 returns-in_err-append_text-clause-adds g c =
     let p = err_from_is_err_and c.from_residual.result c.from_residual.ensures.1 in
     let adds = c.in_err-append_text.ensures.adds in
-    let text = ap (λ (bytes : List ℕ). take c.put_padded-len.result bytes) c.as_slice-padded.ensures ∙ c.put_padded-len.ensures.items in
+    let text = ap (λ (bytes : List ℕ). take c.put_padded-len.result bytes) c.as_slice-bytes.ensures ∙ c.put_padded-len.ensures.items in
     rw (← c.self.view_is, p.1) (record {
-      any_moment = λ before entries honest settled. adds.any_moment before entries (given g.row.A.Denot c.args.commands.now) (rw c.as_slice-padded.ensures c.put_padded-len.ensures.next) honest settled;
+      any_moment = λ before entries honest settled. adds.any_moment before entries (given g.row.A.Denot c.args.commands.now) (rw c.as_slice-bytes.ensures c.put_padded-len.ensures.next) honest settled;
       acknowledged = tt;
       durable = λ honest. tt;
       elsewhere = λ honest. tt;
@@ -42,11 +42,11 @@ pub returns-clause-adds : goal.returns-clause-adds
 returns-clause-adds g c =
     let count : length c.args.commands.now ≡ length (given g.row.A.Denot c.args.commands.now) = sym (given_count g.row.A.Denot c.args.commands.now) in
     let adds = c.in_ok-append_text.ensures.adds in
-    let text = ap (λ (bytes : List ℕ). take c.put_padded-len.result bytes) c.as_slice-padded.ensures ∙ c.put_padded-len.ensures.items in
+    let text = ap (λ (bytes : List ℕ). take c.put_padded-len.result bytes) c.as_slice-bytes.ensures ∙ c.put_padded-len.ensures.items in
     rw (← c.self.view_is) (record {
-      any_moment = λ before entries honest settled. adds.any_moment before entries (given g.row.A.Denot c.args.commands.now) (rw c.as_slice-padded.ensures c.put_padded-len.ensures.next) honest settled;
+      any_moment = λ before entries honest settled. adds.any_moment before entries (given g.row.A.Denot c.args.commands.now) (rw c.as_slice-bytes.ensures c.put_padded-len.ensures.next) honest settled;
       acknowledged = rw count (λ before entries honest settled. adds.acknowledged before entries (given g.row.A.Denot c.args.commands.now)
-          (rw c.as_slice-padded.ensures c.put_padded-len.ensures.next) honest settled);
+          (rw c.as_slice-bytes.ensures c.put_padded-len.ensures.next) honest settled);
       durable = adds.durable;
       elsewhere = adds.elsewhere;
       next = search rules;

@@ -14,8 +14,8 @@ returns-in_err-settle-clause-adds g c =
     rw (p.1, p.2) (record {
       any_moment = λ before entries commands is honest settled.
           let place = c.args.self.now in
-          let room : place.next + data_size c.args.text.now + 2 ≤ place.end = omega (arith, c.sectors_for-size.ensures) in
-          in_fill place before entries commands c.args.text.now (next_read place before entries commands c.args.text.now is settled.counts room) room _ _ _
+          let room : place.next + data_size c.args.data.now.text.now + 2 ≤ place.end = omega (arith, c.sectors_for-size.ensures) in
+          in_fill place before entries commands c.args.data.now.text.now (next_read place before entries commands c.args.data.now.text.now is settled.counts room) room _ _ _
           settled (rw c.sectors_for-size.ensures at (c.in_err-settle.ensures.effect honest));
       acknowledged = tt;
       durable = λ honest. tt;
@@ -23,7 +23,7 @@ returns-in_err-settle-clause-adds g c =
       next = tt;
       calls = tt;
       some_calls =
-          calls_in_text c.args.self.now.next c.args.text.now (g.D.Disk.view c.args.disk.now)
+          calls_in_text c.args.self.now.next c.args.data.now.text.now (g.D.Disk.view c.args.disk.now)
           (g.D.Disk.view c.settle.new.disk) (rw c.sectors_for-size.ensures at c.settle.ensures.runs.some_calls);
     })
 
@@ -33,10 +33,10 @@ returns-in_err-settle-2-clause-adds g c =
     rw (p.1, p.2) (record {
       any_moment = λ before entries commands is honest settled.
           let place = c.args.self.now in
-          let room : place.next + data_size c.args.text.now + 2 ≤ place.end = omega (arith, c.sectors_for-size.ensures) in
+          let room : place.next + data_size c.args.data.now.text.now + 2 ≤ place.end = omega (arith, c.sectors_for-size.ensures) in
           let whole = (g.met.D.Disk.sound c.args.disk.now honest).reads_left in
           let has = rw c.sectors_for-size.ensures at (c.in_ok-settle.ensures.effect honest) in
-          in_gate place before entries commands c.args.text.now (next_read place before entries commands c.args.text.now is settled.counts room) room _ _
+          in_gate place before entries commands c.args.data.now.text.now (next_read place before entries commands c.args.data.now.text.now is settled.counts room) room _ _
           whole settled has (c.in_ok-settle.ensures.durable honest) _ _ _ (c.in_err-settle-2.ensures.effect has.honest);
       acknowledged = tt;
       durable = λ honest. tt;
@@ -44,7 +44,7 @@ returns-in_err-settle-2-clause-adds g c =
       next = tt;
       calls = tt;
       some_calls =
-          calls_in_gate c.args.self.now.next c.args.text.now (g.D.Disk.view c.args.disk.now)
+          calls_in_gate c.args.self.now.next c.args.data.now.text.now (g.D.Disk.view c.args.disk.now)
           (g.D.Disk.view c.settle.new.disk) (g.D.Disk.view c.settle-2.new.disk) (rw c.sectors_for-size.ensures at c.in_ok-settle.ensures.runs.calls)
           c.settle-2.ensures.runs.some_calls;
     })
@@ -53,18 +53,18 @@ pub returns-clause-adds : goal.returns-clause-adds
 returns-clause-adds g c = record {
   any_moment = λ before entries commands is honest settled.
       let place = c.args.self.now in
-      let room : place.next + data_size c.args.text.now + 2 ≤ place.end = omega (arith, c.sectors_for-size.ensures) in
+      let room : place.next + data_size c.args.data.now.text.now + 2 ≤ place.end = omega (arith, c.sectors_for-size.ensures) in
       let whole = (g.met.D.Disk.sound c.args.disk.now honest).reads_left in
       let has = rw c.sectors_for-size.ensures at (c.in_ok-settle.ensures.effect honest) in
-      in_gate place before entries commands c.args.text.now (next_read place before entries commands c.args.text.now is settled.counts room) room _ _
+      in_gate place before entries commands c.args.data.now.text.now (next_read place before entries commands c.args.data.now.text.now is settled.counts room) room _ _
       whole settled has (c.in_ok-settle.ensures.durable honest) _ _ _ (c.in_ok-settle-2.ensures.effect has.honest);
   acknowledged = λ before entries commands is honest settled.
       let place = c.args.self.now in
-      let room : place.next + data_size c.args.text.now + 2 ≤ place.end = omega (arith, c.sectors_for-size.ensures) in
+      let room : place.next + data_size c.args.data.now.text.now + 2 ≤ place.end = omega (arith, c.sectors_for-size.ensures) in
       let whole = (g.met.D.Disk.sound c.args.disk.now honest).reads_left in
       let has = rw c.sectors_for-size.ensures at (c.in_ok-settle.ensures.effect honest) in
       rw c.sectors_for-size.ensures
-      (at_end place before entries commands c.args.text.now (next_read place before entries commands c.args.text.now is settled.counts room) room _ _
+      (at_end place before entries commands c.args.data.now.text.now (next_read place before entries commands c.args.data.now.text.now is settled.counts room) room _ _
       whole settled has (c.in_ok-settle.ensures.durable honest) _ _ (c.in_ok-settle-2.ensures.effect has.honest)
       (c.in_ok-settle-2.ensures.durable has.honest)
       (ap (λ bytes. slice_index bytes 0) (sym open_gate_is)));
@@ -72,16 +72,16 @@ returns-clause-adds g c = record {
       let has = c.in_ok-settle.ensures.effect honest in c.in_ok-settle-2.ensures.durable has.honest;
   elsewhere = λ honest.
       let place = c.args.self.now in
-      let room : place.next + data_size c.args.text.now + 2 ≤ place.end = omega (arith, c.sectors_for-size.ensures) in
+      let room : place.next + data_size c.args.data.now.text.now + 2 ≤ place.end = omega (arith, c.sectors_for-size.ensures) in
       let has = rw c.sectors_for-size.ensures at (c.in_ok-settle.ensures.effect honest) in
-      reads_elsewhere place c.args.text.now c.requires.up room (g.D.Disk.view c.args.disk.now) (g.D.Disk.view c.settle.new.disk)
-      (g.D.Disk.view c.settle-2.new.disk) (data_sector c.args.text.now) (data_sector (1 ∷ [])) _ _ has (c.in_ok-settle-2.ensures.effect has.honest);
+      reads_elsewhere place c.args.data.now.text.now c.requires.up room (g.D.Disk.view c.args.disk.now) (g.D.Disk.view c.settle.new.disk)
+      (g.D.Disk.view c.settle-2.new.disk) (data_sector c.args.data.now.text.now) (data_sector (1 ∷ [])) _ _ has (c.in_ok-settle-2.ensures.effect has.honest);
   next = search rules;
   calls =
-      calls_at_end c.args.self.now.next c.args.text.now (g.D.Disk.view c.args.disk.now) (g.D.Disk.view c.settle.new.disk)
+      calls_at_end c.args.self.now.next c.args.data.now.text.now (g.D.Disk.view c.args.disk.now) (g.D.Disk.view c.settle.new.disk)
       (g.D.Disk.view c.settle-2.new.disk) (rw c.sectors_for-size.ensures at c.in_ok-settle.ensures.runs.calls) c.in_ok-settle-2.ensures.runs.calls;
   some_calls =
-      calls_in_gate c.args.self.now.next c.args.text.now (g.D.Disk.view c.args.disk.now) (g.D.Disk.view c.settle.new.disk)
+      calls_in_gate c.args.self.now.next c.args.data.now.text.now (g.D.Disk.view c.args.disk.now) (g.D.Disk.view c.settle.new.disk)
       (g.D.Disk.view c.settle-2.new.disk) (rw c.sectors_for-size.ensures at c.in_ok-settle.ensures.runs.calls) c.settle-2.ensures.runs.some_calls;
 }
 
