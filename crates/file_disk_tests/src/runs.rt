@@ -141,7 +141,7 @@ fn is_as_stated(row: &Row) -> Option<bool> {
     let failed = row.answer.is_err();
     let counted = disk.failures() == u64::from(failed);
     let again = !failed || (write_three(&mut disk, &run)? == Ok(()) && disk.failures() == 1);
-    let turns = row.turns + u64::from(failed);
+    let turns = row.turns.saturating_add(u64::from(failed));
     Some(answered && counted && again && is_held(&disk.into_file(), &run, turns))
 }
 

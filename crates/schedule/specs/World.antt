@@ -36,7 +36,7 @@ ground = empty greatest
 abbrev pub Entry : Type 0 → Type 0
 Entry A = Command A × Reply A
 
--- a station: the commands that it submitted and that are not sealed, oldest first, and how many accepted commands it has seen
+-- a station's line: the commands that it submitted and that are not sealed, oldest first, and how many accepted commands it has seen
 pub record Line (A : Type 0) : Type 0 where
   pub queue : List (Command A)
   pub seen : Count

@@ -6,7 +6,7 @@ use centre_core::Command;
 use std::alloc::{AllocError, Allocator};
 use std::marker::Model;
 
-/// A station: the commands that it submitted and that are not sealed, oldest first, and how many accepted
+/// A station's line: the commands that it submitted and that are not sealed, oldest first, and how many accepted
 /// commands it has seen.
 #[derive(Drop)]
 pub(crate) struct StationLine<A: Allocator> {

@@ -70,7 +70,7 @@ fn answer_query<J: Centre, C: Allocator + Copy>(
     }
 }
 
-// The answer of the published copy, as `answered` gives it; the viewer is changed in place.
+// The answer of the published copy, as `answer_query` gives it; the viewer is changed in place.
 fn answer_in_place<J: Centre, C: Allocator + Copy>(
     viewer: &mut Viewer<J>,
     asked: (&Query, C),
@@ -108,7 +108,7 @@ fn put_listing<J: Centre, C: Allocator + Copy>(
     }
 }
 
-// The text with the listing, as `listed` gives it; the viewer is changed in place.
+// The text with the listing, as `put_listing` gives it; the viewer is changed in place.
 fn list_in_place<J: Centre, C: Allocator + Copy>(
     viewer: &mut Viewer<J>,
     text: Vec<u8, C>,

@@ -11,7 +11,7 @@ use std::collections::LinkedList;
 use std::marker::{Brand, Model, PhantomData};
 use std::sync::Arc;
 
-/// A place of the queue: the right to have one entry there. It has no bytes.
+/// A permit for a place of the queue: the right to have one entry there. It has no bytes.
 #[derive(Drop)]
 pub struct Permit {
     pub(crate) pass: QueuePass,

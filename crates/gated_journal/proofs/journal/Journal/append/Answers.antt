@@ -14,7 +14,7 @@ append_text-requires-clause-small g c = let short = next_short _ (given g.row.A.
     omega (arith, ap (λ (bytes : List ℕ). length (take c.put_padded-len.result bytes)) c.as_slice-bytes.ensures, short.1)
 
 pub invariant_of-data : goal.invariant_of-data
-invariant_of-data g c = rw c.as_slice-bytes.ensures c.put_padded-len.ensures.padded
+invariant_of-data g c = rw c.as_slice-bytes.ensures (record { same = c.put_padded-len.ensures.padded })
 
 pub put_padded-len-requires-clause-next : goal.put_padded-len-requires-clause-next
 put_padded-len-requires-clause-next g c = record {

@@ -29,10 +29,10 @@ append_texts-requires-clause-other_fits g c =
     rw c.other.view_is (omega (arith, ap (λ (bytes : List ℕ). length (take c.put_padded-other_len.result bytes)) c.as_slice-other_bytes.ensures, short.0, fit))
 
 pub invariant_of-data : goal.invariant_of-data
-invariant_of-data g c = rw c.as_slice-bytes.ensures c.put_padded-len.ensures.padded
+invariant_of-data g c = rw c.as_slice-bytes.ensures (record { same = c.put_padded-len.ensures.padded })
 
 pub invariant_of-other_data : goal.invariant_of-other_data
-invariant_of-other_data g c = rw c.as_slice-other_bytes.ensures c.put_padded-other_len.ensures.padded
+invariant_of-other_data g c = rw c.as_slice-other_bytes.ensures (record { same = c.put_padded-other_len.ensures.padded })
 
 pub put_padded-len-requires-clause-next : goal.put_padded-len-requires-clause-next
 put_padded-len-requires-clause-next g c = record {
