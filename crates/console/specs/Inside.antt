@@ -1,5 +1,6 @@
 pub mod Feed
 pub mod Current
+pub mod Kept
 pub mod Given
 pub mod Marks
 pub mod Left

@@ -2,6 +2,7 @@
 ghost use Rattle.std.specs.Prelude.{◌≡◌, ◌≤◌, ◌<◌, ◌+◌, ◌++◌, ◌∷◌, [], List, ℕ, length, IfOk, IfErr, OnErr, Some};
 ghost use Rattle.console.specs.Events.{Read, ReadFailed};
 ghost use Rattle.console.specs.Inside.Feed.{FitsPiece, IsPiece, read_in};
+ghost use Rattle.console.specs.Inside.Kept.{IsSameInput};
 
 use crate::events::{Events, Note};
 use crate::running::{Piece, RunFault};
@@ -42,9 +43,7 @@ impl<'r, 's, R: Read, L: Ledger, F: Ledger> Input<'r, 's, R, L, F> {
     /// Notes that a call of the reader gave these bytes.
     #[inline(always)]
     fn gave(&mut self, bytes: &[u8])
-        ensures reader { self.new.reader.ghost_name ≡ self.old.reader.ghost_name }
-        ensures steps { self.new.steps.ghost_name ≡ self.old.steps.ghost_name }
-        ensures faults { self.new.faults.ghost_name ≡ self.old.faults.ghost_name }
+        ensures input { IsSameInput self.old self.new }
         ensures events { self.new.events.list ≡ self.old.events.list ++ Read bytes.now ∷ [] }
         ensures same { (self.new.reader.now ≡ self.old.reader.now) × (self.new.steps.now ≡ self.old.steps.now) × (self.new.faults.now ≡ self.old.faults.now) }
     {
@@ -54,9 +53,7 @@ impl<'r, 's, R: Read, L: Ledger, F: Ledger> Input<'r, 's, R, L, F> {
     /// Notes that a call of the reader failed.
     #[inline(always)]
     fn failed(&mut self)
-        ensures reader { self.new.reader.ghost_name ≡ self.old.reader.ghost_name }
-        ensures steps { self.new.steps.ghost_name ≡ self.old.steps.ghost_name }
-        ensures faults { self.new.faults.ghost_name ≡ self.old.faults.ghost_name }
+        ensures input { IsSameInput self.old self.new }
         ensures events { self.new.events.list ≡ self.old.events.list ++ ReadFailed ∷ [] }
         ensures same { (self.new.reader.now ≡ self.old.reader.now) × (self.new.steps.now ≡ self.old.steps.now) × (self.new.faults.now ≡ self.old.faults.now) }
     {
@@ -66,9 +63,7 @@ impl<'r, 's, R: Read, L: Ledger, F: Ledger> Input<'r, 's, R, L, F> {
     /// Calls the reader once, and notes that.
     pub(crate) fn read(&mut self, buffer: &mut [u8]) -> Result<Piece, RunFault>
         requires { 0 < length buffer.old }
-        ensures reader { self.new.reader.ghost_name ≡ self.old.reader.ghost_name }
-        ensures steps { self.new.steps.ghost_name ≡ self.old.steps.ghost_name }
-        ensures faults { self.new.faults.ghost_name ≡ self.old.faults.ghost_name }
+        ensures input { IsSameInput self.old self.new }
         ensures bound { IfOk result (λ piece. FitsPiece piece (length buffer.new)) }
         ensures ok { IfOk result (λ piece. (input : List ℕ) → R.remaining self.old.reader.now ≡ Some input
             → IsPiece piece buffer.new input (R.remaining self.new.reader.now)) }

@@ -1,7 +1,7 @@
 //! The writer of a run, and the ledger of its failures.
-ghost use Rattle.std.specs.Prelude.{◌≡◌, ◌≤◌, ◌<◌, ◌+◌, ◌++◌, ◌∷◌, [], List, ℕ, length, take, IfOk, IfErr, OnOk, OnErr, Some};
+ghost use Rattle.std.specs.Prelude.{◌≡◌, ◌≤◌, ◌<◌, ◌+◌, ◌++◌, ◌∷◌, [], List, ℕ, length, take, IfOk, OnOk, OnErr, Some};
 ghost use Rattle.console.specs.Events.{Answered, WriteFailed, Wrote};
-ghost use Rattle.console.specs.Failures.{failures_reported};
+ghost use Rattle.console.specs.Inside.Kept.{IsSameOutput, WritesOn};
 ghost use Rattle.console.specs.Inside.Passing.{Passes, sent_by};
 
 use crate::events::{Events, Note};
@@ -40,8 +40,7 @@ impl<'w, 'f, W: Write, G: Ledger> Output<'w, 'f, W, G> {
     /// Notes that an answer is given, with this text.
     #[inline(always)]
     pub(crate) fn note_answer(&mut self, text: &[u8])
-        ensures writer { self.new.writer.ghost_name ≡ self.old.writer.ghost_name }
-        ensures failures { self.new.failures.ghost_name ≡ self.old.failures.ghost_name }
+        ensures output { IsSameOutput self.old self.new }
         ensures events { self.new.events.list ≡ self.old.events.list ++ Answered text.now ∷ [] }
         ensures same { (self.new.writer.now ≡ self.old.writer.now) × (self.new.failures.now ≡ self.old.failures.now) }
     {
@@ -51,8 +50,7 @@ impl<'w, 'f, W: Write, G: Ledger> Output<'w, 'f, W, G> {
     /// Notes that a call of the writer took these bytes.
     #[inline(always)]
     fn wrote(&mut self, bytes: &[u8])
-        ensures writer { self.new.writer.ghost_name ≡ self.old.writer.ghost_name }
-        ensures failures { self.new.failures.ghost_name ≡ self.old.failures.ghost_name }
+        ensures output { IsSameOutput self.old self.new }
         ensures events { self.new.events.list ≡ self.old.events.list ++ Wrote bytes.now ∷ [] }
         ensures same { (self.new.writer.now ≡ self.old.writer.now) × (self.new.failures.now ≡ self.old.failures.now) }
     {
@@ -62,8 +60,7 @@ impl<'w, 'f, W: Write, G: Ledger> Output<'w, 'f, W, G> {
     /// Counts and notes that a call of the writer failed.
     #[inline(always)]
     fn failed(&mut self)
-        ensures writer { self.new.writer.ghost_name ≡ self.old.writer.ghost_name }
-        ensures failures { self.new.failures.ghost_name ≡ self.old.failures.ghost_name }
+        ensures output { IsSameOutput self.old self.new }
         ensures events { self.new.events.list ≡ self.old.events.list ++ WriteFailed ∷ [] }
         ensures same { self.new.writer.now ≡ self.old.writer.now }
         ensures ledger { self.new.failures.now ≡ self.old.failures.now + 1 }
@@ -74,8 +71,6 @@ impl<'w, 'f, W: Write, G: Ledger> Output<'w, 'f, W, G> {
 
     /// Writes some of the bytes; none if the call was interrupted, which may happen `patience` times.
     fn write(&mut self, bytes: &[u8], patience: &mut u32) -> Result<usize, RunFault>
-        ensures writer { self.new.writer.ghost_name ≡ self.old.writer.ghost_name }
-        ensures failures { self.new.failures.ghost_name ≡ self.old.failures.ghost_name }
         ensures bound { IfOk result (λ n. n ≤ length bytes.now) }
         ensures ok { IfOk result (λ n. (before : List ℕ) → W.contents self.old.writer.now ≡ Some before
             → W.contents self.new.writer.now ≡ Some (before ++ take n bytes.now)) }
@@ -83,8 +78,7 @@ impl<'w, 'f, W: Write, G: Ledger> Output<'w, 'f, W, G> {
         ensures events { IfOk result (λ n. self.new.events.list ≡ self.old.events.list ++ Wrote (take n bytes.now) ∷ []) }
         ensures noted { OnErr result (self.new.events.list ≡ self.old.events.list ++ WriteFailed ∷ []) }
         ensures goes_on { IfOk result (λ n. patience.new < patience.old + n) }
-        ensures ledger { self.new.failures.now ≡ self.old.failures.now + failures_reported result }
-        ensures plain { IfErr result (λ e. e ≡ RunFault.Write) }
+        ensures writes { WritesOn self.old self.new result }
     {
         match self.writer.write(bytes) {
             Ok(n) if n > 0 => {
@@ -104,13 +98,10 @@ impl<'w, 'f, W: Write, G: Ledger> Output<'w, 'f, W, G> {
 
     /// Flushes the writer.
     fn flush(&mut self) -> Result<(), RunFault>
-        ensures writer { self.new.writer.ghost_name ≡ self.old.writer.ghost_name }
-        ensures failures { self.new.failures.ghost_name ≡ self.old.failures.ghost_name }
         ensures keeps { (before : List ℕ) → W.contents self.old.writer.now ≡ Some before → W.contents self.new.writer.now ≡ Some before }
         ensures silent { OnOk result (self.new.events.list ≡ self.old.events.list) }
         ensures noted { OnErr result (self.new.events.list ≡ self.old.events.list ++ WriteFailed ∷ []) }
-        ensures ledger { self.new.failures.now ≡ self.old.failures.now + failures_reported result }
-        ensures plain { IfErr result (λ e. e ≡ RunFault.Write) }
+        ensures writes { WritesOn self.old self.new result }
     {
         match self.writer.flush() {
             Ok(()) => Ok(()),
@@ -125,12 +116,9 @@ impl<'w, 'f, W: Write, G: Ledger> Output<'w, 'f, W, G> {
     /// the writer was flushed; a failed flush is counted.
     #[inline(always)]
     pub(crate) fn send(&mut self, bytes: &[u8]) -> Result<(), RunFault>
-        ensures writer { self.new.writer.ghost_name ≡ self.old.writer.ghost_name }
-        ensures failures { self.new.failures.ghost_name ≡ self.old.failures.ghost_name }
         ensures ok { OnOk result (Passes (sent_by W.contents self.old) (sent_by W.contents self.new) bytes.now [] []) }
         ensures err { OnErr result ((left : List ℕ) × Passes (sent_by W.contents self.old) (sent_by W.contents self.new) bytes.now [] left) }
-        ensures ledger { self.new.failures.now ≡ self.old.failures.now + failures_reported result }
-        ensures plain { IfErr result (λ e. e ≡ RunFault.Write) }
+        ensures writes { WritesOn self.old self.new result }
     {
         let mut patience = u32::MAX;
         let mut at = 0;

@@ -3,7 +3,8 @@ ghost use Rattle.std.specs.Prelude.{◌≡◌, ◌⊎◌, ◌≤◌, ◌<◌, �
 ghost use Rattle.std.specs.Prelude.{MatchOption, option_map, IfErr, IfOk, IsErrOf, IsTrue, OnOk, OnErr, Some};
 ghost use Rattle.console.specs.Inside.Given.{MayBePrinted, answer_of};
 ghost use Rattle.console.specs.Inside.Feed.{GoesOnAtLine, GoesOnIn, StopsAtLine, StopsIn};
-ghost use Rattle.console.specs.Inside.Feed.{Sends, SendsPart, GoesOn, StopsWithin, EndsSo, IsSameRun, reached_by, start_at, outcome_at};
+ghost use Rattle.console.specs.Inside.Feed.{Sends, SendsPart, GoesOn, StopsWithin, EndsSo, IsSameRun, RunsOn, reached_by, start_at, outcome_at};
+ghost use Rattle.console.specs.Inside.Kept.{IsSameInput, WritesOn};
 ghost use Rattle.console.specs.Inside.Passing.{sent_by};
 ghost use Rattle.console.specs.Failures.{failures_reported};
 ghost use Rattle.console.specs.Inside.Current.{HasNoEnd, Holds, KeepsLine};
@@ -97,10 +98,7 @@ fn send_answer<A: Allocator + Copy + Drop, W: Write, G: Ledger>(
     ensures err { OnErr result (SendsPart progress.old.lines (sent_by W.contents output.old) (answer_of progress.old.out.bytes.items given.now)
         (sent_by W.contents output.new)) }
     ensures lines { progress.new.lines ≤ progress.old.lines + 1 }
-    ensures stops { IfErr result (λ e. e ≡ RunFault.Write) }
-    ensures writer { output.new.writer.ghost_name ≡ output.old.writer.ghost_name }
-    ensures failures { output.new.failures.ghost_name ≡ output.old.failures.ghost_name }
-    ensures ledger { output.new.failures.now ≡ output.old.failures.now + failures_reported result }
+    ensures writes { WritesOn output.old output.new result }
 {
     let number = progress.lines + 1;
     let troubled = progress.out.hold(number, given);
@@ -158,9 +156,7 @@ impl<
         ensures err { IfErr result (λ e. StopsWithin D.rules (reached_by D.world W.contents self.old) (run.now ++ 10 ∷ []) e
             (reached_by D.world W.contents self.new)) }
         ensures lines { self.new.progress.now.lines ≤ self.old.progress.now.lines + 1 }
-        ensures stops { IfErr result (λ e. e ≡ RunFault.Write) }
-        ensures same { IsSameRun self.old self.new }
-        ensures ledger { self.new.output.now.failures.now ≡ self.old.output.now.failures.now + failures_reported result }
+        ensures runs { RunsOn self.old self.new result }
     {
         let progress = &mut *self.progress;
         progress.current.join(run);
@@ -187,9 +183,7 @@ impl<
         ensures err { IfErr result (λ e. StopsAtLine D.rules (reached_by D.world W.contents self.old) text.now e (reached_by D.world W.contents self.new)) }
         ensures lines { IfOk result (λ n. self.new.progress.now.lines ≤ self.old.progress.now.lines + n) }
         ensures most { self.new.progress.now.lines ≤ self.old.progress.now.lines + length text.now }
-        ensures stops { IfErr result (λ e. e ≡ RunFault.Write) }
-        ensures same { IsSameRun self.old self.new }
-        ensures ledger { self.new.output.now.failures.now ≡ self.old.output.now.failures.now + failures_reported result }
+        ensures runs { RunsOn self.old self.new result }
     {
         let most = self.desk.most_together();
         let progress = &mut *self.progress;
@@ -230,9 +224,7 @@ impl<
         ensures err { IfErr result (λ e. StopsIn D.rules (reached_by D.world W.contents self.old) piece.now at e (reached_by D.world W.contents self.new)) }
         ensures lines { IfOk result (λ next. self.new.progress.now.lines + at ≤ self.old.progress.now.lines + next) }
         ensures most { self.new.progress.now.lines + at ≤ self.old.progress.now.lines + length piece.now }
-        ensures stops { IfErr result (λ e. e ≡ RunFault.Write) }
-        ensures same { IsSameRun self.old self.new }
-        ensures ledger { self.new.output.now.failures.now ≡ self.old.output.now.failures.now + failures_reported result }
+        ensures runs { RunsOn self.old self.new result }
     {
         if !self.may_ask(piece, at) {
             self.take_line(&piece[at..end])?;
@@ -252,9 +244,7 @@ impl<
         ensures ok { OnOk result (GoesOn D.rules (reached_by D.world W.contents self.old) piece.now (reached_by D.world W.contents self.new)) }
         ensures err { IfErr result (λ e. StopsWithin D.rules (reached_by D.world W.contents self.old) piece.now e (reached_by D.world W.contents self.new)) }
         ensures lines { self.new.progress.now.lines ≤ self.old.progress.now.lines + length piece.now }
-        ensures stops { IfErr result (λ e. e ≡ RunFault.Write) }
-        ensures same { IsSameRun self.old self.new }
-        ensures ledger { self.new.output.now.failures.now ≡ self.old.output.now.failures.now + failures_reported result }
+        ensures runs { RunsOn self.old self.new result }
     {
         let mut at = 0;
         while let Some(end) = next_end(piece, at) {
@@ -268,9 +258,7 @@ impl<
     fn finish(&mut self) -> Result<Ran, RunFault>
         requires { self.old.progress.now.lines + 1 < 2 ^ 64 }
         ensures ends { EndsSo D.rules (reached_by D.world W.contents self.old) (reached_by D.world W.contents self.new) result }
-        ensures stops { IfErr result (λ e. e ≡ RunFault.Write) }
-        ensures same { IsSameRun self.old self.new }
-        ensures ledger { self.new.output.now.failures.now ≡ self.old.output.now.failures.now + failures_reported result }
+        ensures runs { RunsOn self.old self.new result }
     {
         let progress = &mut *self.progress;
         if progress.current.is_empty() {
@@ -308,9 +296,7 @@ impl<
             → (input.new.steps.now ≡ input.old.steps.now + self.old.terms.now.turns) ⊎ (input.old.faults.now < input.new.faults.now) }
         ensures ledger { self.new.output.now.failures.now ≡ self.old.output.now.failures.now + failures_reported result }
         ensures memory { IsErrOf result RunFault.NoMemory → ⊥ }
-        ensures reader { input.new.reader.ghost_name ≡ input.old.reader.ghost_name }
-        ensures steps { input.new.steps.ghost_name ≡ input.old.steps.ghost_name }
-        ensures faults { input.new.faults.ghost_name ≡ input.old.faults.ghost_name }
+        ensures input { IsSameInput input.old input.new }
         ensures same { IsSameRun self.old self.new }
     {
         self.progress.begin();

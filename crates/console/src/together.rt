@@ -1,14 +1,14 @@
 //! Consecutive lines that ask for commands. They are done together, and answered together.
-ghost use Rattle.std.specs.Prelude.{◌≡◌, ◌≤◌, ◌<◌, ◌+◌, ◌++◌, ◌∷◌, [], List, ℕ, Result, All, IfErr, IfOk, MatchBool, OnErr, OnOk, length, take, vec_capacity, vec_len};
+ghost use Rattle.std.specs.Prelude.{◌≡◌, ◌≤◌, ◌<◌, ◌+◌, ◌++◌, ◌∷◌, [], List, ℕ, Result, All, IfOk, MatchBool, OnErr, OnOk, length, take, vec_capacity, vec_len};
 ghost use Rattle.std.specs.List.{list_any};
 ghost use Rattle.desk.specs.Replies.{HasShortPdu};
 ghost use Rattle.desk.specs.Rules.{AreApplied};
 ghost use Rattle.listings.specs.Parts.{answer_room};
 ghost use Rattle.console.specs.Answer.{is_trouble, text, texts};
-ghost use Rattle.console.specs.Failures.{failures_reported};
 ghost use Rattle.console.specs.Reading.{heard};
 ghost use Rattle.console.specs.Runs.{speaker_of};
 ghost use Rattle.console.specs.declared.line.Line.TheVariants.{Apply};
+ghost use Rattle.console.specs.Inside.Kept.{IsSameOutput, WritesOn};
 ghost use Rattle.console.specs.Inside.Passing.{Passes, PassesPart, sent_by};
 ghost use Rattle.console.specs.Inside.Together.{AreLines, answer_for, answers_for};
 
@@ -85,8 +85,7 @@ fn give_result<A: Allocator, B: Allocator, W: Write, G: Ledger>(
     ensures told { Passes (sent_by W.contents output.old) (sent_by W.contents output.new) page.old.items (text (answer_for command.now reply.now)) page.new.items }
     ensures trouble { result ≡ is_trouble (answer_for command.now reply.now) }
     ensures capacity { vec_capacity page.old ≤ vec_capacity page.new }
-    ensures writer { output.new.writer.ghost_name ≡ output.old.writer.ghost_name }
-    ensures failures { output.new.failures.ghost_name ≡ output.old.failures.ghost_name }
+    ensures output { IsSameOutput output.old output.new }
     ensures ledger { output.new.failures.now ≡ output.old.failures.now }
 {
     let before = page.len();
@@ -105,10 +104,7 @@ fn write_page<A: Allocator, W: Write, G: Ledger>(
     ensures err { OnErr result ((left : List ℕ) × Passes (sent_by W.contents output.old) (sent_by W.contents output.new) page.old.items [] left) }
     ensures room { OnOk result (vec_len page.new + answer_room ≤ vec_capacity page.new) }
     ensures capacity { vec_capacity page.old ≤ vec_capacity page.new }
-    ensures stops { IfErr result (λ e. e ≡ RunFault.Write) }
-    ensures writer { output.new.writer.ghost_name ≡ output.old.writer.ghost_name }
-    ensures failures { output.new.failures.ghost_name ≡ output.old.failures.ghost_name }
-    ensures ledger { output.new.failures.now ≡ output.old.failures.now + failures_reported result }
+    ensures writes { WritesOn output.old output.new result }
 {
     output.send(page.as_slice())?;
     page.clear();
@@ -126,10 +122,7 @@ fn make_room<A: Allocator, W: Write, G: Ledger>(
     ensures err { OnErr result ((left : List ℕ) × Passes (sent_by W.contents output.old) (sent_by W.contents output.new) page.old.items [] left) }
     ensures room { OnOk result (vec_len page.new + answer_room ≤ vec_capacity page.new) }
     ensures capacity { vec_capacity page.old ≤ vec_capacity page.new }
-    ensures stops { IfErr result (λ e. e ≡ RunFault.Write) }
-    ensures writer { output.new.writer.ghost_name ≡ output.old.writer.ghost_name }
-    ensures failures { output.new.failures.ghost_name ≡ output.old.failures.ghost_name }
-    ensures ledger { output.new.failures.now ≡ output.old.failures.now + failures_reported result }
+    ensures writes { WritesOn output.old output.new result }
 {
     if page.len() <= PAGE - ANSWER {
         return Ok(());
@@ -151,10 +144,7 @@ fn send_all<A: Allocator, B: Allocator, W: Write, G: Ledger>(
     ensures trouble { IfOk result (λ troubled. troubled ≡ list_any is_trouble (answers_for commands.now replies.now)) }
     ensures err { OnErr result (PassesPart (sent_by W.contents output.old) (sent_by W.contents output.new) (texts (answers_for commands.now replies.now))) }
     ensures capacity { vec_capacity page.old ≤ vec_capacity page.new }
-    ensures stops { IfErr result (λ e. e ≡ RunFault.Write) }
-    ensures writer { output.new.writer.ghost_name ≡ output.old.writer.ghost_name }
-    ensures failures { output.new.failures.ghost_name ≡ output.old.failures.ghost_name }
-    ensures ledger { output.new.failures.now ≡ output.old.failures.now + failures_reported result }
+    ensures writes { WritesOn output.old output.new result }
 {
     page.clear();
     let mut troubled = false;
@@ -235,10 +225,7 @@ impl<A: Allocator + Copy + Drop> Together<A> {
             × OnOk result (Passes (sent_by W.contents output.old) (sent_by W.contents output.new) [] (texts (answers_for self.old.commands.items replies)) [])
             × IfOk result (λ troubled. troubled ≡ list_any is_trouble (answers_for self.old.commands.items replies))
             × OnErr result (PassesPart (sent_by W.contents output.old) (sent_by W.contents output.new) (texts (answers_for self.old.commands.items replies))) }
-        ensures stops { IfErr result (λ e. e ≡ RunFault.Write) }
-        ensures writer { output.new.writer.ghost_name ≡ output.old.writer.ghost_name }
-        ensures failures { output.new.failures.ghost_name ≡ output.old.failures.ghost_name }
-        ensures ledger { output.new.failures.now ≡ output.old.failures.now + failures_reported result }
+        ensures writes { WritesOn output.old output.new result }
     {
         desk.apply_all(alloc, &self.commands, &mut self.replies);
         send_all(&mut self.page, &self.commands, &self.replies, output)

@@ -1,5 +1,5 @@
 -- How far a run has come.
-use Rattle.std.specs.Prelude.{◌≡◌, ℕ, ◌+◌, ◌≤◌, ◌||◌, List, [], ◌++◌, length, Option, Some, Result, Err, take}
+use Rattle.std.specs.Prelude.{◌≡◌, ℕ, ◌+◌, ◌≤◌, ◌||◌, List, [], ◌++◌, length, Option, Some, Result, Err, IfErr, take}
 use Rattle.std.specs.List.{list_any}
 use Rattle.std.specs.Str.Lines.{lines}
 use Rattle.identity.specs.Numbers.{Byte}
@@ -8,6 +8,7 @@ use Rattle.console.specs.declared.serving.LineRun.{LineRun}
 use Rattle.console.specs.declared.running.Ran.{Ran}
 use Rattle.console.specs.declared.running.Piece.{Piece}
 use Rattle.console.specs.declared.running.RunFault.{RunFault}
+use Rattle.console.specs.declared.running.RunFault.TheVariants.{Write}
 use Rattle.console.specs.declared.running.Piece.TheVariants.{End, Bytes}
 use Rattle.console.specs.declared.answer.Answer.{Answer}
 use Rattle.console.specs.Answer.{text, texts, is_trouble}
@@ -17,6 +18,7 @@ use Rattle.console.specs.Reading.{Speaker}
 use Rattle.console.specs.Runs.{Start, Outcome, speaker_of}
 use Rattle.console.specs.Events.{Event, read_failures}
 use Rattle.console.specs.Told.{IsTold}
+use Rattle.console.specs.Failures.{failures_reported}
 use Rattle.console.specs.Inside.Passing.{Follows, Passes, Sent, sent_by}
 use Rattle.console.specs.Inside.Current.{HasNoEnd, Holds, IsGivenFor}
 
@@ -44,6 +46,13 @@ pub record IsSameRun {A W G D : Type 0} (old new : LineRun A W G D) : Type 0 whe
   pub desk : new.desk.ghost_name ≡ old.desk.ghost_name
   pub writer : new.output.now.writer.ghost_name ≡ old.output.now.writer.ghost_name
   pub failures : new.output.now.failures.ghost_name ≡ old.output.now.failures.ghost_name
+
+-- A call that answers lines. The run stays the same one. The ledger counts the failure that the result reports, and the call fails only
+-- where the writer failed.
+pub record RunsOn {A W G D T : Type 0} (old new : LineRun A W G D) (result : Result T RunFault) : Type 0 where
+  pub same : IsSameRun old new
+  pub ledger : new.output.now.failures.now ≡ old.output.now.failures.now + failures_reported result
+  pub stops : IfErr result (λ e. e ≡ Write)
 
 module _ {A W : Type 0} where
   -- the start of a run from here, whose reader has these bytes left

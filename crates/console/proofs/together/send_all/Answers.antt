@@ -67,9 +67,9 @@ loop-k-preserved g c =
           (passes_on begun (sent_by contents c.make_room.new.output) (sent_by contents c.give_result-troubled.new.output) [] (texts first ++ []) made
           (text a) page room c.give_result-troubled.ensures.told);
       trouble = (λ j. i.trouble j || c.give_result-troubled.ensures.trouble j) ∙ sym (trouble_more first a) ∙ ap (list_any is_trouble) (sym more);
-      writer = c.give_result-troubled.ensures.writer ∙ c.make_room.ensures.writer ∙ i.writer;
-      failures = c.give_result-troubled.ensures.failures ∙ c.make_room.ensures.failures ∙ i.failures;
-      ledger = omega (arith, c.give_result-troubled.ensures.ledger, c.in_ok-make_room.ensures.ledger, i.ledger);
+      writer = c.give_result-troubled.ensures.output.writer ∙ c.make_room.ensures.writes.same.writer ∙ i.writer;
+      failures = c.give_result-troubled.ensures.output.failures ∙ c.make_room.ensures.writes.same.failures ∙ i.failures;
+      ledger = omega (arith, c.give_result-troubled.ensures.ledger, c.in_ok-make_room.ensures.writes.ledger, i.ledger);
     }
 
 pub returns-in_err-send-clause-err : goal.returns-in_err-send-clause-err

@@ -24,8 +24,8 @@ returns-in_err-at-clause-err g c =
       left,
       passes_on (sent_by contents c.args.self.now) (sent_by contents c.loop-at.self) (sent_by contents c.write.new.self) c.args.bytes.now [] left [] left c.loop-at.invariant.4
           (failure_passes _ _ left c.in_err-at.ensures.noted
-          (failed_once ℕ c.in_err-at.field-0.0 c.loop-at.self.failures.now c.write.new.self.failures.now c.in_err-at.ensures.plain
-          c.in_err-at.ensures.ledger) c.in_err-at.ensures.err),
+          (failed_once ℕ c.in_err-at.field-0.0 c.loop-at.self.failures.now c.write.new.self.failures.now c.in_err-at.ensures.writes.stops
+          c.in_err-at.ensures.writes.ledger) c.in_err-at.ensures.err),
     )
 
 pub loop-at-preserved : goal.loop-at-preserved
@@ -36,12 +36,12 @@ loop-at-preserved g c =
     let n = c.in_ok-at.field-0 in
     let waits = take (length bytes - at) (drop at bytes) in (
       grind (arith, common_steps, c.in_ok-at.ensures.bound),
-      c.write.ensures.writer ∙ c.loop-at.invariant.1,
-      c.write.ensures.failures ∙ c.loop-at.invariant.2,
-      omega (arith, c.in_ok-at.ensures.ledger, c.loop-at.invariant.3),
+      c.write.ensures.writes.same.writer ∙ c.loop-at.invariant.1,
+      c.write.ensures.writes.same.failures ∙ c.loop-at.invariant.2,
+      omega (arith, c.in_ok-at.ensures.writes.ledger, c.loop-at.invariant.3),
       passes_on (sent_by contents c.args.self.now) (sent_by contents c.loop-at.self) (sent_by contents c.write.new.self) bytes [] (drop at bytes) [] (drop (at + n) bytes) c.loop-at.invariant.4
           (passes_by _ _ waits [] (drop n waits) (drop at bytes) [] (drop (at + n) bytes) (left_of bytes at) refl (left_later bytes at n)
-          (write_passes _ _ waits n c.in_ok-at.ensures.events (omega (arith, c.in_ok-at.ensures.ledger)) c.in_ok-at.ensures.ok)),
+          (write_passes _ _ waits n c.in_ok-at.ensures.events (omega (arith, c.in_ok-at.ensures.writes.ledger)) c.in_ok-at.ensures.ok)),
     )
 
 pub returns-clause-ok : goal.returns-clause-ok
@@ -51,7 +51,7 @@ returns-clause-ok g c =
     let left = drop c.loop-at.at bytes in
     on_ok_weaker c.flush.result (λ flushed. passes_by _ _ bytes [] left bytes [] [] refl refl (none_left bytes c.loop-at.at (omega (arith, c.loop-at.invariant.0, c.loop-at-test.false)))
     (passes_on (sent_by contents c.args.self.now) (sent_by contents c.loop-at.self) (sent_by contents c.flush.new.self) bytes [] left [] left c.loop-at.invariant.4 flushed))
-    (flush_passes c.flush.result (sent_by contents c.loop-at.self) (sent_by contents c.flush.new.self) left c.flush.ensures.silent c.flush.ensures.ledger c.flush.ensures.keeps)
+    (flush_passes c.flush.result (sent_by contents c.loop-at.self) (sent_by contents c.flush.new.self) left c.flush.ensures.silent c.flush.ensures.writes.ledger c.flush.ensures.keeps)
 
 pub returns-clause-err : goal.returns-clause-err
 returns-clause-err g c =
@@ -61,4 +61,4 @@ returns-clause-err g c =
       left,
       passes_on (sent_by contents c.args.self.now) (sent_by contents c.loop-at.self) (sent_by contents c.flush.new.self) c.args.bytes.now [] left [] left c.loop-at.invariant.4 failed,
     ))
-    (flush_fails c.flush.result (sent_by contents c.loop-at.self) (sent_by contents c.flush.new.self) left c.flush.ensures.noted c.flush.ensures.plain c.flush.ensures.ledger c.flush.ensures.keeps)
+    (flush_fails c.flush.result (sent_by contents c.loop-at.self) (sent_by contents c.flush.new.self) left c.flush.ensures.noted c.flush.ensures.writes.stops c.flush.ensures.writes.ledger c.flush.ensures.keeps)

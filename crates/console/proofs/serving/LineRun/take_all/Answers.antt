@@ -145,11 +145,11 @@ loop-preserved g c = let kept = c.take_piece.ensures in let was = c.loop.invaria
             (piece.0, piece.1, passed_on input so.0 left.0 bytes piece.0 left.2 piece.2),
         c.in_ok-take_piece-in-Bytes.ensures.ok start begun so.0 so.3,
       )),
-  c.read.ensures.reader ∙ was.4,
-  c.read.ensures.steps ∙ was.5,
-  c.read.ensures.faults ∙ was.6,
-  omega (arith, c.in_ok-take_piece-in-Bytes.ensures.ledger, c.loop.invariant.7),
-  still_same c.args.self.now c.loop.self c.take_piece.new.self was.8 kept.same,
+  c.read.ensures.input.reader ∙ was.4,
+  c.read.ensures.input.steps ∙ was.5,
+  c.read.ensures.input.faults ∙ was.6,
+  omega (arith, c.in_ok-take_piece-in-Bytes.ensures.runs.ledger, c.loop.invariant.7),
+  still_same c.args.self.now c.loop.self c.take_piece.new.self was.8 kept.runs.same,
   has_called (calls_of c.args.input.now) (calls_of c.loop.input) (calls_of c.read.new.self) (take c.in-Bytes.n c.read.new.buffer) c.loop.counter _
       (c.in_ok-read.ensures.events ∙ ap (λ (p : Piece). c.loop.input.events.list ++ event.Read (read_in p c.read.new.buffer) ∷ []) c.in-Bytes.is) (omega arith) was.9,
 )
@@ -195,19 +195,19 @@ returns-clause-whole g c = λ failed.
     (g.R.Read.remaining c.loop.input.reader.now) so.1 so.3
 
 pub returns-in-End-clause-whole : goal.returns-in-End-clause-whole
-returns-in-End-clause-whole g c = λ failed. absurd (never_read c.finish.result c.finish.ensures.stops failed)
+returns-in-End-clause-whole g c = λ failed. absurd (never_read c.finish.result c.finish.ensures.runs.stops failed)
 
 pub returns-in_err-take_piece-in-Bytes-clause-whole : goal.returns-in_err-take_piece-in-Bytes-clause-whole
 returns-in_err-take_piece-in-Bytes-clause-whole g c = λ failed.
     let p = err_from_is_err_and c.from_residual-in_err-take_piece-in-Bytes.result c.from_residual-in_err-take_piece-in-Bytes.ensures.1 in
-    absurd (never_read {T = Ran} (Err c.in_err-take_piece-in-Bytes.field-0.0) c.in_err-take_piece-in-Bytes.ensures.stops
+    absurd (never_read {T = Ran} (Err c.in_err-take_piece-in-Bytes.field-0.0) c.in_err-take_piece-in-Bytes.ensures.runs.stops
     (subst (λ (r : Result Ran RunFault). IsErrOf r Read) (p.1 ∙ ap Err p.2) failed))
 
 pub returns-in-End-clause-read : goal.returns-in-End-clause-read
-returns-in-End-clause-read g c = λ failed. absurd (never_read c.finish.result c.finish.ensures.stops failed)
+returns-in-End-clause-read g c = λ failed. absurd (never_read c.finish.result c.finish.ensures.runs.stops failed)
 
 pub returns-in-End-clause-memory : goal.returns-in-End-clause-memory
-returns-in-End-clause-memory g c = never_memory c.finish.result c.finish.ensures.stops
+returns-in-End-clause-memory g c = never_memory c.finish.result c.finish.ensures.runs.stops
 
 pub returns-in_err-read-clause-ends : goal.returns-in_err-read-clause-ends
 returns-in_err-read-clause-ends g c =
@@ -227,7 +227,7 @@ returns-in-End-clause-ends g c =
     let ended = c.finish.ensures.ends start begun so.0 so.3 in
     ends_read c.args.self.now.terms.now.turns (calls_of c.args.input.now) (calls_of c.loop.input) c.loop.counter c.loop.invariant.9 begun now ended.0 ended.1
     (calls_of c.read.new.self) [] c.finish.result (c.in_ok-read.ensures.events ∙ ap (λ (p : Piece). c.loop.input.events.list ++ event.Read (read_in p c.read.new.buffer) ∷ []) c.in-End.is)
-    c.loop-test.true (known_ok c.finish.result refl) c.finish.ensures.stops (omega (arith, c.finish.ensures.ledger, c.loop.invariant.7))
+    c.loop-test.true (known_ok c.finish.result refl) c.finish.ensures.runs.stops (omega (arith, c.finish.ensures.runs.ledger, c.loop.invariant.7))
 
 pub returns-in_err-take_piece-in-Bytes-clause-ends : goal.returns-in_err-take_piece-in-Bytes-clause-ends
 returns-in_err-take_piece-in-Bytes-clause-ends g c =
@@ -240,7 +240,7 @@ returns-in_err-take_piece-in-Bytes-clause-ends g c =
     rw (p.1 ∙ ap Err p.2) (ends_read c.args.self.now.terms.now.turns (calls_of c.args.input.now) (calls_of c.loop.input) c.loop.counter c.loop.invariant.9 begun now ended.0 ended.1
     (calls_of c.read.new.self) (take c.in-Bytes.n c.read.new.buffer) (Err c.in_err-take_piece-in-Bytes.field-0.0)
     (c.in_ok-read.ensures.events ∙ ap (λ (q : Piece). c.loop.input.events.list ++ event.Read (read_in q c.read.new.buffer) ∷ []) c.in-Bytes.is)
-    c.loop-test.true tt c.in_err-take_piece-in-Bytes.ensures.stops (omega (arith, c.in_err-take_piece-in-Bytes.ensures.ledger, c.loop.invariant.7)))
+    c.loop-test.true tt c.in_err-take_piece-in-Bytes.ensures.runs.stops (omega (arith, c.in_err-take_piece-in-Bytes.ensures.runs.ledger, c.loop.invariant.7)))
 
 pub returns-clause-ends : goal.returns-clause-ends
 returns-clause-ends g c =
