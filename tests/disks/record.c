@@ -1,12 +1,14 @@
 /* Preloaded into a program by recorder.py. It writes down to the file RECORD what is done with the file DISK, once the call has
    succeeded: `w`, offset and length and the bytes of each write, `p`, offset and 0 of each read, `t`, the length that the file is
-   given, and 0, and for each sync `s` (fdatasync) or `a` (fsync); `d` is an fsync of the folder FOLDER. The FAILS-th of these calls,
-   from 1, fails and does nothing, which is `f`; where ALWAYS is set, so does each later one. Its error is EIO, or the one whose number
-   is ERROR. LINES names files, with a colon between two. It lets a read of such a file have TOGETHER lines at most, and writes down,
-   before the read, `r`, how many whole lines of the file were read so far, 2, and two bytes: the file's place in LINES, from 1, and
-   TOGETHER; where these lines are BREAKS or more, and BREAKS is not 0, the read fails. ANSWERS names files in the same way: of each
-   write to one of them it writes down, before the write, `o`, the file's place in ANSWERS, from 1, and length and the bytes. Numbers
-   have 8 bytes, in this machine's order. Threads may do all this at once, each file read by one of them. */
+   given, and 0, and for each sync `s` (fdatasync) or `a` (fsync); `d` is an fsync of the folder FOLDER. Where MOST is set, a write of
+   DISK takes so many bytes at most. The FAILS-th of these calls, from 1, fails and does nothing, which is `f`; where ALWAYS is set, so
+   does each later one. Its error is EIO, or the one whose number is ERROR. A write that fails writes the first PART of its bytes all the
+   same, where PART is set: `f` has these, as `w` has them. LINES names files, with a colon between two. It lets a read of such a file
+   have TOGETHER lines at most, and writes down, before the read, `r`, how many whole lines of the file were read so far, 2, and two
+   bytes: the file's place in LINES, from 1, and TOGETHER; where these lines are BREAKS or more, and BREAKS is not 0, the read fails.
+   ANSWERS names files in the same way: of each write to one of them it writes down, before the write, `o`, the file's place in ANSWERS,
+   from 1, and length and the bytes. Numbers have 8 bytes, in this machine's order. Threads may do all this at once, each file read by one
+   of them. */
 #define _GNU_SOURCE
 #include <errno.h>
 #include <fcntl.h>
@@ -35,7 +37,15 @@ static void note(char kind, uint64_t first, uint64_t second, const void *bytes, 
     errno = before;
 }
 
-static int fails(int fd)
+/* So many bytes, or those that a variable allows, if these are fewer; `without` where it is not set. */
+static size_t at_most(const char *variable, size_t length, size_t without)
+{
+    size_t most = getenv(variable) ? strtoul(getenv(variable), NULL, 10) : without;
+    return most < length ? most : length;
+}
+
+/* Whether a call of this file fails, which would write these bytes. */
+static int fails_writing(int fd, const void *bytes, size_t length, off_t offset)
 {
     static long left;
     static int is_known, has_failed;
@@ -47,17 +57,26 @@ static int fails(int fd)
     if (has_failed ? !getenv("ALWAYS") : left == 0 || --left > 0)
         return 0;
     has_failed = 1;
-    note('f', 0, 0, "", 0);
+    size_t part = at_most("PART", length, 0);
+    if (part > 0 && syscall(SYS_pwrite64, fd, bytes, part, offset) != (ssize_t)part)
+        abort();
+    note('f', offset, part, bytes, part);
     errno = getenv("ERROR") ? atoi(getenv("ERROR")) : EIO;
     return 1;
 }
 
+static int fails(int fd)
+{
+    return fails_writing(fd, "", 0, 0);
+}
+
 ssize_t pwrite(int fd, const void *bytes, size_t length, off_t offset)
 {
-    if (fails(fd))
+    if (fails_writing(fd, bytes, length, offset))
         return -1;
-    ssize_t written = syscall(SYS_pwrite64, fd, bytes, length, offset);
-    if (written > 0 && is_file(fd, "DISK"))
+    int is_disk = is_file(fd, "DISK");
+    ssize_t written = syscall(SYS_pwrite64, fd, bytes, is_disk ? at_most("MOST", length, length) : length, offset);
+    if (written > 0 && is_disk)
         note('w', offset, written, bytes, written);
     return written;
 }

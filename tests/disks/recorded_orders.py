@@ -52,8 +52,9 @@ class Written:
 
     def follow(self, done):
         """What a program did. A sector that is written in parts is not followed."""
-        if done.kind == 'w' and len(done.bytes) == SECTOR and done.number % SECTOR == 0:
-            self.write(done.number // SECTOR, done.bytes)
+        if done.kind in ('w', 'f') and done.number % SECTOR == 0:
+            for k in range(len(done.bytes) // SECTOR):
+                self.write(done.number // SECTOR + k, done.bytes[k * SECTOR:][:SECTOR])
 
 
 def command_lines(lines):

@@ -15,9 +15,10 @@ SOURCE = pathlib.Path(__file__).resolve().parent / 'record.c'
 RECORD = 'record'
 HEAD = struct.Struct('=cQQ')
 
-# What the program did: a write of these bytes from an offset on, a read, a sync, a length given, the folder synced, a call that
-# failed, or that it asked for lines of a file, having read so many; the bytes are the file's place, from 1, and how many lines it can
-# get. Or the bytes that it is about to write as answers; the number is the place of their file, from 1
+# What the program did: a write of these bytes from an offset on, a read, a sync, a length given, the folder synced, or a call that
+# failed; a write that failed has its offset, and the bytes that it wrote all the same. Or that it asked for lines of a file, having read
+# so many; the bytes are the file's place, from 1, and how many lines it can get. Or the bytes that it is about to write as answers; the
+# number is the place of their file, from 1
 Done = collections.namedtuple('Done', 'kind number bytes', defaults=[0, b''])
 
 
@@ -80,9 +81,20 @@ def writes(disk, done):
         yield Write(at, old[:front] + new + old[front + len(new):])
 
 
+def is_run(done):
+    """Whether it is a call that wrote several sectors."""
+    return done.kind == 'w' and len(done.bytes) > SECTOR
+
+
+def sectors_of(done, part):
+    """A call that wrote whole sectors, as if it had written only those of this slice."""
+    kept = range(len(done.bytes) // SECTOR)[part]
+    return done._replace(number=done.number + kept.start * SECTOR, bytes=done.bytes[kept.start * SECTOR:kept.stop * SECTOR])
+
+
 def follow(disk, done):
     """Does to a disk what the program did to its file."""
     if done.kind in ('s', 'a'):
         disk.call(SYNC)
-    for write in writes(disk, done) if done.kind == 'w' else ():
-        disk.call(write)
+    if done.kind in ('w', 'f') and done.bytes:
+        disk.write(list(writes(disk, done)))

@@ -32,7 +32,7 @@ from recorder import recorder
 from running import Differs, compare
 from station_lines import lines
 from station_stops import (answers_before_the_last_sync, begins, count_on, followed, gates_left_as_they_are, gates_with_their_data, moments,
-                           shown, taken, without_data, without_syncs)
+                           shown, taken, without_data, without_last_data, without_syncs)
 from testing import Count, options
 
 # How many lines of each station take as long as the latest stop, and the most that a station sends by then
@@ -206,7 +206,7 @@ def written_before_the_last_sync(record):
     return answers_before_the_last_sync(record, 'o')
 
 
-BUGS = [without_syncs, gates_with_their_data, written_before_the_last_sync, without_data, gates_left_as_they_are]
+BUGS = [without_syncs, gates_with_their_data, written_before_the_last_sync, without_data, without_last_data, gates_left_as_they_are]
 
 
 def bug_found(image, record, order, others, change, dice):

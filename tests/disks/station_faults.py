@@ -1,10 +1,10 @@
 #!/usr/bin/env python3
 """One write or sync of the disk file fails while the program serves the files of 4 stations, in each run another one (record.c,
-compiled and preloaded): that one alone, or each later one too. The disk began in either layout. Where the call opens the disk that is
-a fault. Else the commands of that round are answered `device`, and all later ones `broken`; queries go on to be answered by what was
-acknowledged. The file is left alone from there on. It has every command that was acknowledged, and of those that were answered
-`device` what a whole record has. All is judged by the independent reading (tests/reading/), which has to refuse runs that are changed
-here. Prints the seed, what was found, and last 'N passed, M failed'.
+compiled and preloaded): that one alone, or each later one too, or a write after a part of its bytes. The disk began in either layout.
+Where the call opens the disk that is a fault. Else the commands of that round are answered `device`, and all later ones `broken`;
+queries go on to be answered by what was acknowledged. The file is left alone from there on. It has every command that was acknowledged,
+and of those that were answered `device` what a whole record has. All is judged by the independent reading (tests/reading/), which has to
+refuse runs that are changed here. Prints the seed, what was found, and last 'N passed, M failed'.
 Usage: tests/run station_faults PROGRAM [--runs N] [--lines N] [--seed N]"""
 import itertools
 import random
@@ -23,9 +23,12 @@ STATIONS, READY = 4, 'ready.img'
 DEVICE, BROKEN = 'device', 'broken'
 # A refusal that the rules give to no command of a run, whatever its order: it would need 2^62 accepted commands
 NEVER = b' no numbers-used-up'
-# On which disks calls fail, and how; where lines come together a read gives so many
+# On which disks calls fail, and how; where lines come together a read gives so many. A write that fails may write a sector, or more
 FAILING = ((PLAIN, 'once', {}), (NUMBERED, 'and each later one', {'ALWAYS': 1}), (NUMBERED, 'once, lines together', {'together': 8}),
-           (PLAIN, 'and each later one, lines together', {'ALWAYS': 1, 'together': 20}))
+           (PLAIN, 'and each later one, lines together', {'ALWAYS': 1, 'together': 20}), (NUMBERED, 'after 512 bytes', {'PART': 512}),
+           (NUMBERED, 'after 700 bytes, lines together', {'PART': 700, 'together': 20}))
+# The calls of a record: its data and the gate after it, a sync, its gate, a sync
+OF_A_RECORD = 4
 
 
 # The answers
@@ -204,7 +207,7 @@ def numbers_of(files, made, dice, count, runs_of, together):
     if not calls:
         return []
     opening, every = calls
-    first, later = range(opening + 1, opening + 6), range(opening + 6, every * 3 // 4)
+    first, later = range(opening + 1, opening + 1 + OF_A_RECORD), range(opening + 1 + OF_A_RECORD, every * 3 // 4)
     return [1, *first, *sorted(dice.sample(later, min(runs_of, len(later))))]
 
 
@@ -221,7 +224,7 @@ def main():
             told = [count.case(f'call {number} fails {name}', a_fault, folder, files, made, number, fails) for number in numbers]
             count.case('faults within the runs', compare, 'faults', sum(bool(kept) for kept in told) * 2 >= words.runs, True)
             count.case('beside an unread file', beside_an_unread_file, folder, made, numbers[1])
-            for number in numbers[1:6]:
+            for number in numbers[1:1 + OF_A_RECORD]:
                 count.case(f'call {number} fails under one station', those_at_hand, folder, made, number)
             files.write(folder)
             changes_refused(folder, files, made, numbers[len(numbers) // 2], count)

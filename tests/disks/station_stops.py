@@ -6,9 +6,10 @@ beside and without.
 - The same run again must answer these commands `kept` or `old-sequence`, and the rest as they come then. It must end as a run without
   a stop can end.
 Then the test records the calls of such runs (record.c, compiled and preloaded), in one of which a read gives several lines of a
-station, and takes moments between them. At each moment the writes since the last sync are done, left out or torn. Each image must open to a prefix of the order that contains everything answered
-by then. Bugs planted in the record must be found, and changed orders refused. The independent reading (tests/reading/) judges all of
-this. Prints the seed, what was found, and last 'N passed, M failed'.
+station, and takes moments between them. At each moment the writes since the last sync are done, left out or torn, each sector of a call
+on its own. Each image must open to a prefix of the order that contains everything answered by then. Bugs planted in the record must be
+found, and changed orders refused. The independent reading (tests/reading/) judges all of this. Prints the seed, what was found, and last
+'N passed, M failed'.
 Usage: tests/run station_stops PROGRAM [--moments N] [--lines N] [--seconds N] [--seed N]"""
 import random
 import subprocess
@@ -24,7 +25,7 @@ from reading_disks import PLAIN, copied, opens
 from reading_orders import Answered, NoOrder, Order, answered, follows, is_troubled, parts
 from reading_rows import SECTOR
 from recorded_orders import Asked, Written, order_on
-from recorder import follow, recorder
+from recorder import follow, is_run, recorder, sectors_of
 from running import Differs, compare
 from testing import Count, options
 
@@ -234,7 +235,8 @@ def is_gate(done):
 
 
 def is_data(done):
-    return done.kind == 'w' and done.bytes[0] == 0 and any(done.bytes)
+    """Whether a call writes a record's data, and the gate after it."""
+    return is_run(done) and done.bytes[0] == 0 and any(done.bytes)
 
 
 def without_syncs(record):
@@ -258,16 +260,24 @@ def answers_before_the_last_sync(record, kind='r'):
 
 
 def without_data(record):
-    return [done for done in record if not is_data(done)]
+    return [sectors_of(done, slice(-1, None)) if is_data(done) else done for done in record]
+
+
+def without_last_data(record):
+    """Of each record the last data sector is not written."""
+    return [part for done in record
+            for part in ([sectors_of(done, slice(-2)), sectors_of(done, slice(-1, None))] if is_data(done) else [done])
+            if part.kind != 'w' or part.bytes]
 
 
 def gates_left_as_they_are(record):
     """None is closed."""
-    return [done for done in record if done.kind != 'w' or any(done.bytes)]
+    kept = [done for done in record if done.kind != 'w' or any(done.bytes)]
+    return [sectors_of(done, slice(-1)) if is_data(done) else done for done in kept]
 
 
 # The last one shows only where a journal is used again, as by the many commits of lines that come one at a time
-BUGS = [without_syncs, gates_with_their_data, answers_before_the_last_sync, without_data, gates_left_as_they_are]
+BUGS = [without_syncs, gates_with_their_data, answers_before_the_last_sync, without_data, without_last_data, gates_left_as_they_are]
 
 
 def bug_found(whole, change, dice):
