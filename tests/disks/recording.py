@@ -162,6 +162,7 @@ def the_end(place, last, serving):
 
 def checkpoints(image):
     """There were enough, so that the disk is of layout 2."""
+    compare('the disk has commands', register_of(image).count > 0, True)
     opening = opens(image)
     if opening.epoch <= CHECKPOINTS:
         raise Differs(f'{opening.epoch - 1} checkpoints')
