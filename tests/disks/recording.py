@@ -205,6 +205,15 @@ def in_run(turn, *slices):
     return turn if syncs(turn) > 4 else with_call(turn, 'w', 0, kept)
 
 
+def gate_in_the_run(turn):
+    """A record's gate, its data and the gate after it by one call: a stop within it may leave the gate alone."""
+    data = next((done for done in turn if done.kind == 'w'), None)
+    if data is None or not is_run(data):
+        return turn
+    gate = next(done for done in turn if done.kind == 'w' and done.number == data.number - SECTOR)
+    return [gate._replace(bytes=gate.bytes + data.bytes) if done is data else done for done in turn if done is not gate]
+
+
 def ended(turn, kind, number):
     """It without that call, where a checkpoint ends: a record with the gate after it in each half, a sync, two gates, a sync, rows, a
     sync, the root."""
@@ -217,6 +226,7 @@ def other_record_left_out(turn):
 
 
 DATA_BUGS = {
+    'records and their gates by one call': gate_in_the_run,
     'records synced once': lambda turn: in_record(turn, 's', 0),
     'records without their data': lambda turn: in_run(turn, slice(-1, None)),
     'records without their last data sector': lambda turn: in_run(turn, slice(-2), slice(-1, None)),
