@@ -197,9 +197,10 @@ def recorded(made, stations, count):
     with serving_pipes(place, STATIONS, env=made.environment(files=(), answers=answers)) as program:
         at_once([functools.partial(station.talk, place, program, count) for station in stations])
         finish(program, status_of(stations))
+    order = judge(place, stations)
     if opens(place.image()).epoch <= (1 if isinstance(stations[0], Several) else 2):
         raise Differs(f'{opens(place.image()).epoch - 1} checkpoints')
-    return image, made.record(), judge(place, stations)
+    return image, made.record(), order
 
 
 def written_before_the_last_sync(record):

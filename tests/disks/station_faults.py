@@ -207,12 +207,12 @@ def numbers_of(files, made, dice, count, runs_of, together):
     if not calls:
         return []
     opening, every = calls
-    first, later = range(opening + 1, opening + 1 + OF_A_RECORD), range(opening + 1 + OF_A_RECORD, every * 3 // 4)
+    first, later = range(opening + 1, opening + 1 + OF_A_RECORD), range(opening + 1 + OF_A_RECORD, every // 2)
     return [1, *first, *sorted(dice.sample(later, min(runs_of, len(later))))]
 
 
 def main():
-    words = options(__doc__, runs=20, lines=50)
+    words = options(__doc__, runs=20, lines=80)
     print(f'seed {words.seed}', flush=True)
     dice, count = random.Random(words.seed), Count()
     files = by_chance(dice, STATIONS, words.lines)
@@ -222,12 +222,13 @@ def main():
             folder.begins(form, READY)
             numbers = numbers_of(files, made, dice, count, words.runs, fails.get('together', 1))
             told = [count.case(f'call {number} fails {name}', a_fault, folder, files, made, number, fails) for number in numbers]
-            count.case('faults within the runs', compare, 'faults', sum(bool(kept) for kept in told) * 2 >= words.runs, True)
+            within, later = sum(bool(kept) for kept in told), len(told) - 1 - OF_A_RECORD
+            count.case('faults within the runs', compare, 'half of the later calls', 2 * within >= max(later, 2), True)
             count.case('beside an unread file', beside_an_unread_file, folder, made, numbers[1])
             for number in numbers[1:1 + OF_A_RECORD]:
                 count.case(f'call {number} fails under one station', those_at_hand, folder, made, number)
             files.write(folder)
-            changes_refused(folder, files, made, numbers[len(numbers) // 2], count)
+            changes_refused(folder, files, made, numbers[(len(numbers) + OF_A_RECORD) // 2], count)
             print(f'{name}: {len(told)} runs; commands acknowledged before the fault: {" ".join(map(str, told))}', flush=True)
     count.end()
 
