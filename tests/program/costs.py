@@ -25,8 +25,9 @@ from testing import Count, options
 COUNTER = pathlib.Path(__file__).resolve().parent / 'count.c'
 # The tables of a small register and of a full one. The records of a case take less than half of a half: no checkpoint begins.
 SMALL, FULL, HALF = 16, 4096, 60_000
+# How many times a line costs on a full register: groups attached cost most, some 4.1 times, the more the less a line costs beside its tables.
 # A copy of the register takes some five allocations for each radio.
-MOST_TIMES, MOST_PER_CHECKPOINT, LINES_EACH = 4, 64 + 6 * FULL, 512
+MOST_TIMES, MOST_PER_CHECKPOINT, LINES_EACH = 5, 64 + 6 * FULL, 512
 # Bytes of a line. A run keeps the answers to a line and to the query after it, some 30 bytes, for a moment three times.
 MOST_BYTES, MOST_HELD = 4 * 1024, 128
 # What comes after each command that is committed alone, and how many such lines are served
